@@ -1,4 +1,4 @@
--- In a program that breaks no rule the names in a protocol find neither nothing nor two.
+-- In a program that breaks no rule the names in a protocol find neither nothing nor two declarations.
 use Rattle.std.proofs.Common.{◌≡◌, ℕ, ◌<◌, ◌≤◌, Bool, true, false, List, length, get_or, Option, Some, IsSomeAnd, slice_get, inl, inr, refl, subst, arith}
 use Rattle.std.specs.Prelude.{IfSome, codes, if◌then◌else◌}
 use Rattle.std.specs.List.{Any, list_any}
@@ -30,11 +30,11 @@ use Rattle.actor_tables.specs.SchemaSource.{FindsSoleProtocol, NamesFindSole, Me
 use Rattle.actor_tables.proofs.CleanTypes.{Unknown, Ambiguous, params_sole, unit_unknown, unit_ambiguous}
 use Rattle.actor_tables.proofs.Protocols.{never_two}
 
--- what holds of the protocol that is there
+-- a property of the protocol that is there
 held : (P : ProtocolDecl → Type 0) (o : Option ProtocolDecl) (p : ProtocolDecl) → o ≡ Some p → P p → IsSomeAnd o P
 held P o p has h = some_in P o p has h
 
--- a constructor has the name of what is managed
+-- a constructor has the name of a managed protocol
 constructor_managed : (delete managed : Bool) → kind.Constructor ≡ (if delete then kind.Destructor else (if managed then kind.Constructor else kind.Normal)) → managed ≡ true
 constructor_managed true managed e = let wrong : ⊥ = cc in absurd wrong
 constructor_managed false true e = refl

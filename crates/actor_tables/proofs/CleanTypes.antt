@@ -1,4 +1,4 @@
--- In a program that breaks no rule each name of a type finds neither nothing nor two.
+-- In a program that breaks no rule each name of a type finds neither nothing nor two declarations.
 use Rattle.std.proofs.Common.{◌≡◌, ℕ, Bool, List, get_or, Some, slice_get, inl, inr, refl}
 use Rattle.std.specs.List.{Any}
 use Rattle.std.proofs.lemmas.Option.{slice_get-get_or, option_and_then_some}
@@ -24,7 +24,7 @@ never_unknown program clean place h = clean.types (record { place = place; rule 
 never_ambiguous : (program : List Entry) → IsClean program → (place : Place) → ¬ IsAmbiguousType program place
 never_ambiguous program clean place h = clean.types (record { place = place; rule = rule.AMBIGUOUS_TYPE }) (inr (inl (refl, h)))
 
--- what is said of a type's name at a place
+-- properties of a type's name at a place
 abbrev pub Unknown : List Entry → ℕ → Place → OfType
 Unknown program file place = λ nullable base here. IsUnknown program file base × (here ≡ place)
 

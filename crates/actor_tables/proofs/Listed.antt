@@ -15,7 +15,7 @@ put f x xs all old middle new is first rest =
     rest ∙ ap (λ m. m ++ flat_map (λ y. codes ", " ++ f y) xs) first ∙ append_assoc old (f x) (flat_map (λ y. codes ", " ++ f y) xs)
     ∙ ap (λ t. old ++ t) (sym (listed_begins f x xs)) ∙ ap (λ all. old ++ listed (map f all)) (sym is)
 
--- where the first text was put behind what stood before, and then a comma and each other text, the whole list was put there
+-- if the first text was appended, and then a comma and each other text, then the whole list was appended
 pub listed_put : {A E X : Type 0} (r : Result A E) (f : X → List ℕ) (x : X) (xs all : List X) (old middle new : List ℕ) → all ≡ x ∷ xs → middle ≡ old ++ f x
     → OnOk r (new ≡ middle ++ flat_map (λ y. codes ", " ++ f y) xs) → OnOk r (new ≡ old ++ listed (map f all))
 listed_put (Ok a) f x xs all old middle new is first rest = put f x xs all old middle new is first rest

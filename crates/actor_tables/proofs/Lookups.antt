@@ -13,7 +13,7 @@ use Rattle.actor_tables.specs.Numbered.{decl_of, same_id, numbering_of, AreNumbe
 use Rattle.actor_tables.specs.declared.numbers.SchemaNumbers.{SchemaNumbers}
 use Rattle.actor_tables.specs.declared.numbers.TypeId.{TypeId}
 
--- what is said of the value of an option
+-- a property of the value of an option
 pub at_some : {X : Type 0} (P : X → Type 0) (o : Option X) (x : X) → o ≡ Some x → IsSomeAnd o P → P x
 at_some {X} P o x is h = let Q : Option X → Type 0 = λ p. IsSomeAnd p P in subst Q is h
 
@@ -59,11 +59,11 @@ unfolding id_of
 id_back file true index = refl
 id_back file false index = refl
 
--- the declaration tells which struct or union it is
+-- the declaration determines the struct or union
 pub same_type : (a b : TypeId) → decl_of a ≡ decl_of b → a ≡ b
 same_type a b e = sym (id_back a.file a.is_union a.index) ∙ ap id_of e ∙ id_back b.file b.is_union b.index
 
--- a declaration that stands among those of these stands there as one of these
+-- a declaration among the declarations of these is that of one of these
 pub contains_type : (ids : List TypeId) (id : TypeId) → Contains (map decl_of ids) (decl_of id) → Contains ids id
 contains_type ids id (k, lt, at) =
     let below : k < length ids = rw (length-map ids decl_of) at lt in

@@ -45,7 +45,7 @@ none_named program = record {
   few = omega arith;
 }
 
--- one file more that has a protocol
+-- one more file that has a protocol
 pub named_push : (program : List Entry) (i : ℕ) (named new : List Named) (full : Bor (List ℕ)) (p : ProtocolDecl) → AreNamedFiles program i named → protocol_of program i ≡ Some p → full.now ≡ p.full → new ≡ named ++ (full, i) ∷ [] → AreNamedFiles program (i + 1) new
 named_push program i named new full p are has same is = subst (AreNamedFiles program (i + 1)) (sym is) (record {
   full = All-push (λ (n : Named). IsSomeAnd (protocol_of program n.1) (λ q. q.full ≡ n.0.now)) named (full, i) are.full
@@ -60,7 +60,7 @@ named_push program i named new full p are has same is = subst (AreNamedFiles pro
   few = (let fits : length named ≤ i = are.few in simp length-append (omega arith));
 })
 
--- one that has none
+-- a file that has no protocol
 pub named_skip : (program : List Entry) (i : ℕ) (named : List Named) → AreNamedFiles program i named → protocol_of program i ≡ None → AreNamedFiles program (i + 1) named
 named_skip program i named are none = record {
   full = are.full;
@@ -83,7 +83,7 @@ protocol_at program i e below at = ap (λ (o : Option Entry). option_and_then (�
 
 -- Numbers of files
 
--- each of the first of these files has its place among them
+-- each of the first files has its index among them
 abbrev pub FindsBelow : List ℕ → List ℕ → ℕ → Type 0
 FindsBelow files numbers limit = (k : ℕ) → k < limit → (get_or numbers (get_or files k 0) 0 < length files) × (get_or files (get_or numbers (get_or files k 0) 0) 0 ≡ get_or files k 0)
 
@@ -117,7 +117,7 @@ named_cmp a b = ordering_then (slice_cmp nat_cmp a.0.now b.0.now) (nat_cmp a.1 b
 named_total : IsTotalOrder named_cmp
 named_total = then_total (on_total (λ (n : Named). n.0.now) nat_list_cmp_total) (on_total (λ (n : Named). n.1) nat_cmp_total)
 
--- an element that there is
+-- the element of a list at an index within it
 pub element : {X : Type 0} (xs : List X) (i : ℕ) → i < length xs → X
 element xs i below = elim (slice_get_cases xs i).1 [ inl one ↦ one.0 | inr past ↦ absurd (omega arith) ]
 
@@ -152,7 +152,7 @@ some_at_all : (o : Option ProtocolDecl) (P : ProtocolDecl → Type 0) → IsSome
 some_at_all None P h = absurd h
 some_at_all (Some p) P h = refl
 
--- files that are sorted with the names of their protocols are in the order of these
+-- files that are sorted by the names of their protocols are in the order of these names
 pub files_ordered : (program : List Entry) (named sorted : List Named) (files : List ℕ) → IsProgram program → BearTheirNames program → AreNamedFiles program (length program) named → IsPermutation named sorted → IsSorted named_cmp sorted
     → files ≡ Files sorted → AreProtocolFiles program files
 files_ordered program named sorted files is bear are moved order same = subst (AreProtocolFiles program) (sym same) (record {

@@ -1,4 +1,4 @@
--- Pieces that are put one behind another.
+-- Pieces that are appended one after another.
 use Rattle.std.proofs.Common.{◌≡◌, ℕ, List, ◌++◌, Result, Ok, Err, is_ok, cond, append_assoc}
 use Rattle.std.specs.Prelude.{OnOk}
 

@@ -1,4 +1,4 @@
--- The protocols of a program that bear the names of their files.
+-- The protocols of a program, which have the names of their files.
 use Rattle.std.proofs.Common.{◌≡◌, ℕ, ◌<◌, inl, inr, List, ◌++◌, get_or, Option, Some, None, slice_get, option_map, refl, sym, ap, subst, ◌∙◌}
 use Rattle.std.specs.Prelude.{option_and_then, IfSome}
 use Rattle.std.proofs.lemmas.Bool.{cases_order}
@@ -35,11 +35,11 @@ one_file program a b d e is at there same = elim (cases_order a b) [
   | inl equal ↦ equal
   | inr differ ↦ elim differ [
     | inl before ↦ absurd (one_before program a b d e is at there same before)
-    | inr behind ↦ absurd (one_before program b a e d is there at (sym same) behind)
+    | inr following ↦ absurd (one_before program b a e d is there at (sym same) following)
   ]
 ]
 
--- two files whose protocols have one short name are one
+-- two files whose protocols have the same short name are the same
 pub same_file : (program : List Entry) (a b : ℕ) (p q : ProtocolDecl) → IsProgram program → BearTheirNames program → protocol_of program a ≡ Some p → protocol_of program b ≡ Some q → short_name p.full ≡ short_name q.full → a ≡ b
 same_file program a b p q is named has other same =
     option_and_then_some (λ (e : Entry). e.unit.protocol) (slice_get program a) p has (λ d at here.
@@ -49,7 +49,7 @@ same_file program a b p q is named has other same =
 
 -- Names that are words
 
--- a protocol that a word finds has it for its short name
+-- a protocol that a word finds has the word as its short name
 found_short : (program : List Entry) (file : ℕ) (text : List ℕ) (p : ℕ) → IsWord text → FindsProtocol program file text p → (q : ProtocolDecl) × (protocol_of program p ≡ Some q) × (short_name q.full ≡ text)
 found_short program file text p word (full, seen, named) = go (slice_get program p) refl (sees_shown program seen).1
   where

@@ -1,4 +1,4 @@
--- What a name finds stands in the program.
+-- What a name finds is in the program.
 use Rattle.std.proofs.Common.{◌≡◌, ℕ, List, Option, Some, None, IsSome, slice_get, option_map, subst, refl}
 use Rattle.std.specs.Prelude.{option_and_then}
 use Rattle.std.proofs.lemmas.Option.{none-some}
@@ -67,7 +67,7 @@ found_in program names file text a b r same argument h =
 pub one_there : (program : List Entry) (file : ℕ) (text : List ℕ) (argument : Option (List ℕ)) (d : DeclId) → FindsOne program file text argument d → IsThere program d
 one_there program file text argument d h = finds_there program file text argument d h.0
 
--- where a name finds neither nothing nor two, it finds one
+-- a name that finds neither nothing nor two declarations finds one
 pub never_other : (program : List Entry) (file : ℕ) (text : List ℕ) (argument : Option (List ℕ)) (r : Found) → FindsSole program file (Named text argument) → Counts (Finds program file text argument) r → ((d : DeclId) → ¬ (r ≡ found.One d)) → ⊥
 never_other program file text argument found.None sole h other = sole.0 h
 never_other program file text argument (found.One d) sole h other = other d refl

@@ -16,7 +16,7 @@ use Rattle.name_table.specs.Decls.{FindsOne}
 use Rattle.program_schema.specs.Numbers.{Numbering}
 use Rattle.program_schema.specs.Shapes.{IsSuffixedBy, IsSuffixed, IsShapeOfBase, IsShapeOfDecl, IsShapeOf}
 
--- one suffix more
+-- one more suffix
 suffixed_more : (P : Shape → Type 0) (xs : List Suffix) (s : Suffix) (whole : Shape) → IsSuffixedBy s (IsSuffixed P xs) whole → IsSuffixed P (xs ++ s ∷ []) whole
 suffixed_more P [] s whole h = h
 suffixed_more P (x ∷ xs) s whole h = suffixed_more (IsSuffixedBy x P) xs s whole h
@@ -47,7 +47,7 @@ pub suffixed_like : (P Q : Shape → Type 0) → ((t : Shape) → P t → Q t) �
 suffixed_like P Q to [] whole h = to whole h
 suffixed_like P Q to (x ∷ xs) whole h = suffixed_like (IsSuffixedBy x P) (IsSuffixedBy x Q) (by_like x P Q to) xs whole h
 
--- a name stands for what it finds
+-- the shape of a name is that of what it finds
 pub named_shape : {E : Type 0} (program : List Entry) (n : Numbering) (file : ℕ) (nullable : Bool) (whole : Base) (name : List ℕ) (argument : Option (List ℕ)) (d : DeclId) (r : Result Shape E) → whole ≡ Named name argument
     → FindsOne program file name argument d → IfOk r (IsShapeOfDecl program n nullable d) → IfOk r (IsShapeOfBase program n file nullable whole)
 named_shape program n file nullable whole name argument d r is finds h =
@@ -55,14 +55,14 @@ named_shape program n file nullable whole name argument d r is finds h =
     (IfOk-weaker r (IsShapeOfDecl program n nullable d) (IsShapeOfBase program n file nullable (Named name argument)) (λ shape s. (d, finds, s)) h)
 
 -- an owned pointer
-pub unique_shape : (program : List Entry) (n : Numbering) (file : ℕ) (nullable : Bool) (whole : Base) (inner : Box TypeSpec Global) (at : Box Shape Global) (one two three : TypeSpec) (suffixes : List Suffix) (held behind : Shape)
+pub unique_shape : (program : List Entry) (n : Numbering) (file : ℕ) (nullable : Bool) (whole : Base) (inner : Box TypeSpec Global) (at : Box Shape Global) (one two three : TypeSpec) (suffixes : List Suffix) (held following : Shape)
     → whole ≡ base.Unique inner → one ≡ inner.value → two ≡ inner.value → three ≡ inner.value → suffixes ≡ three.suffixes
-    → IsShapeOfBase program n file one.nullable two.base held → IsSuffixed (λ s. s ≡ held) suffixes behind → at.value ≡ behind → IsShapeOfBase program n file nullable whole (shape.Unique at)
-unique_shape program n file nullable whole inner at one two three suffixes held behind is e1 e2 e3 e4 h over last =
+    → IsShapeOfBase program n file one.nullable two.base held → IsSuffixed (λ s. s ≡ held) suffixes following → at.value ≡ following → IsShapeOfBase program n file nullable whole (shape.Unique at)
+unique_shape program n file nullable whole inner at one two three suffixes held following is e1 e2 e3 e4 h over last =
     let P : Shape → Type 0 = IsShapeOfBase program n file inner.value.nullable inner.value.base in
     let bare : P held = subst (λ (t : TypeSpec). IsShapeOfBase program n file inner.value.nullable t.base held) e2 (subst (λ (t : TypeSpec). IsShapeOfBase program n file t.nullable two.base held) e1 h) in
-    let all : IsSuffixed (λ s. s ≡ held) inner.value.suffixes behind = subst (λ (t : TypeSpec). IsSuffixed (λ s. s ≡ held) t.suffixes behind) e3 (subst (λ (xs : List Suffix). IsSuffixed (λ s. s ≡ held) xs behind) e4 over) in
-    let made : IsSuffixed P inner.value.suffixes behind = suffixed_like (λ s. s ≡ held) P (λ s e. subst P (sym e) bare) inner.value.suffixes behind all in
+    let all : IsSuffixed (λ s. s ≡ held) inner.value.suffixes following = subst (λ (t : TypeSpec). IsSuffixed (λ s. s ≡ held) t.suffixes following) e3 (subst (λ (xs : List Suffix). IsSuffixed (λ s. s ≡ held) xs following) e4 over) in
+    let made : IsSuffixed P inner.value.suffixes following = suffixed_like (λ s. s ≡ held) P (λ s e. subst P (sym e) bare) inner.value.suffixes following all in
     subst (λ (b : Base). IsShapeOfBase program n file nullable b (shape.Unique at)) (sym is) (subst (IsSuffixed P inner.value.suffixes) (sym last) made)
 
 -- a type

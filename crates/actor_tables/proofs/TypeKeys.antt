@@ -72,7 +72,7 @@ module _ {X : Type 0} (place : X → Place) (is_union : Bool) (xs : List X) wher
 
 -- Files
 
--- what a key says of the tree of a file
+-- what a key means for the tree of a file
 to_place : (program : List Entry) (i : ℕ) (e : Entry) (key : TypeKey) → slice_get program i ≡ Some e → IsStructKey e.unit.structs key ⊎ IsUnionKey e.unit.unions key
     → place_of program (decl_of (record { file = i; is_union = key.is_union; index = key.index })) ≡ Some key.place
 to_place program i e key at h = elim h [

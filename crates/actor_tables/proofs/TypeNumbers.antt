@@ -26,7 +26,7 @@ same_itself a =
 get_or_default : (ids : List TypeId) (i : ℕ) (d e : TypeId) → i < length ids → get_or ids i d ≡ get_or ids i e
 get_or_default ids i d e below = get_or_from_slice_get ids i (get_or ids i e) d (slice_get-get_or ids i e below)
 
--- each of the first of these has its place among them
+-- each of the first types has its index among them
 abbrev pub GivesBelow : {S : Type 0} → List TypeId → HashMap TypeId ℕ S → ℕ → Type 0
 GivesBelow ids numbers limit = (k : ℕ) (d : TypeId) → k < limit → IsSomeAnd (get same_id numbers (get_or ids k d)) (λ number. slice_get ids number ≡ Some (get_or ids k d))
 

@@ -1,4 +1,4 @@
--- Which marks tell of types that are not carried.
+-- The marks that decide whether types mention one that is not carried.
 use Rattle.std.proofs.Common.{◌≡◌, ℕ, ◌+◌, ◌<◌, ◌≤◌, zero, suc, Bool, true, false, List, [], ◌∷◌, ◌++◌, length, get_or, take, Option, Some, None, IsSomeAnd, slice_get, ◌⊎◌, inl, inr, refl, sym, ap, subst, ◌∙◌, arith, cond}
 use Rattle.std.specs.Prelude.{◌↔◌, IsTrue, MatchOption}
 use Rattle.std.specs.List.{Contains, filter_map, cons_option}
@@ -20,7 +20,7 @@ use Rattle.program_schema.proofs.Lists.{place_in}
 use Rattle.actor_tables.specs.Marked.{part_of, parts_of, IsNodeOf, AreNodesOf, AreMarked}
 use Rattle.actor_tables.specs.declared.carried.MarkedTypes.{MarkedTypes}
 
--- Lists of what a function gives
+-- Lists of the results of a function
 
 nothing_in : {X : Type 0} (x : X) → ¬ Contains [] x
 nothing_in x (k, lt, at) = let no : ⊥ = omega arith in no
@@ -53,7 +53,7 @@ out_filter_map f (x ∷ xs) y h = out_first f x xs (filter_map f xs) y (f x) ref
 
 -- Shapes and their marks
 
--- a shape mentions what is not carried where the type of its mark does
+-- a shape mentions a type that is not carried if the type of its mark does
 part_mentions : (rows : List TypeRow) (s : Shape) (p : ℕ) → part_of s ≡ Some p → ((t : ℕ) → p ≡ t + 1 → MentionsUncarried rows (Named t)) → MentionsUncarried rows s
 part_mentions rows (Builtin b) p e of = go (is_carried b) refl e
   where
@@ -68,7 +68,7 @@ part_mentions rows (Maybe' at s) p e of = in_maybe (part_mentions rows s p e of)
 part_mentions rows (Unique' at s) p e of = in_unique (part_mentions rows s p e of)
 part_mentions rows (Endpoint protocol managed) p e of = endpoint
 
--- the mark of what mentions a type that is not carried: the first, or that of such a type
+-- the mark of a shape that mentions a type that is not carried: the first one, or that of a type that mentions one
 abbrev HasMark : List TypeRow → Shape → Type 0
 HasMark rows s = (p : ℕ) × (part_of s ≡ Some p) × ((p ≡ 0) ⊎ ((t : ℕ) × (p ≡ t + 1) × MentionsUncarried rows (Named t)))
 
@@ -81,7 +81,7 @@ has_mark rows (in_unique h) = has_mark rows h
 has_mark rows (in_struct {t} name fields field at contains h) = (t + 1, refl, inr (t, refl, in_struct name fields field at contains h))
 has_mark rows (in_union {t} name components component at contains h) = (t + 1, refl, inr (t, refl, in_union name components component at contains h))
 
--- what a mark says of a shape
+-- what a mark means for a shape
 set_mark : (types : MarkedTypes) (s : Shape) → AreMarked types → MentionsUncarried types.rows.items s → (p : ℕ) × (part_of s ≡ Some p) × (slice_get types.marks.items p ≡ Some true)
 set_mark types s are h =
     let m = has_mark types.rows.items h in
@@ -108,15 +108,15 @@ no_mark types s are none h = let m = set_mark types s are h in none-some m.0 (no
 
 -- Nodes
 
-behind : {X : Type 0} (x : X) (xs : List X) (t : ℕ) → slice_get (x ∷ xs) (t + 1) ≡ slice_get xs t
-behind x xs t = rw add-one refl
+following : {X : Type 0} (x : X) (xs : List X) (t : ℕ) → slice_get (x ∷ xs) (t + 1) ≡ slice_get xs t
+following x xs t = rw add-one refl
 
 module _ (rows : List TypeRow) (nodes : List Node) (are : AreNodesOf rows nodes) where
   at_first : slice_get nodes 0 ≡ Some are.first
   at_first = ap (λ (ns : List Node). slice_get ns 0) are.is
 
   at_type : (t : ℕ) → slice_get nodes (t + 1) ≡ slice_get are.rest t
-  at_type t = ap (λ (ns : List Node). slice_get ns (t + 1)) are.is ∙ behind are.first are.rest t
+  at_type t = ap (λ (ns : List Node). slice_get ns (t + 1)) are.is ∙ following are.first are.rest t
 
   first_derived : IsDerived nodes 0
   first_derived = all are.first at_first are.need (λ part h. absurd (nothing_in part (subst (λ (ps : List ℕ). Contains ps part) are.none h)))
@@ -141,7 +141,7 @@ module _ (rows : List TypeRow) (nodes : List Node) (are : AreNodesOf rows nodes)
       found None e h = absurd h
       found (Some r) e h = (r, e, h)
 
-  -- what mentions a type that is not carried has a mark that is derived
+  -- a shape that mentions a type that is not carried has a mark that is derived
   derived_mark : {s : Shape} → MentionsUncarried rows s → (p : ℕ) × (part_of s ≡ Some p) × IsDerived nodes p
   derived_mark (builtin {b} is) = (0, ap (λ c. cond c None (Some 0)) is, first_derived)
   derived_mark endpoint = (0, refl, first_derived)
@@ -169,7 +169,7 @@ module _ (rows : List TypeRow) (nodes : List Node) (are : AreNodesOf rows nodes)
       let s = out_filter_map part_of components part contains in
       in_union name components s.0 at s.1 (part_mentions rows s.0 part s.2 of)
 
-  -- and a type whose mark is derived mentions one
+  -- a type whose mark is derived mentions one
   derived_mentions : {k : ℕ} → IsDerived nodes k → (t : ℕ) → k ≡ t + 1 → MentionsUncarried rows (Named t)
   derived_mentions (all {k} node at need each) t e =
       let r = row_of t node (subst (λ (j : ℕ). slice_get nodes j ≡ Some node) e at) in
@@ -190,7 +190,7 @@ marked types nodes are marks = record {
   );
 }
 
--- one row more
+-- one more row
 nodes_more : (rows : List TypeRow) (nodes : List Node) (r : TypeRow) (node : Node) → AreNodesOf rows nodes → IsNodeOf r node → AreNodesOf (rows ++ r ∷ []) (nodes ++ node ∷ [])
 nodes_more rows nodes r node are is = record {
   first = are.first;

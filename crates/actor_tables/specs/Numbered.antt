@@ -1,4 +1,4 @@
--- The numbers of protocols and types as they are made and looked up.
+-- The numbers of protocols and types, as they are made and looked up.
 use Rattle.std.specs.Prelude.{◌≡◌, ◌↔◌, ◌⊎◌, ℕ, ◌<◌, ◌≤◌, Bool, true, false, ◌&&◌, ◌==◌, if◌then◌else◌, List, map, length, Some, IsSome, IsSomeAnd, slice_get, option_map}
 use Rattle.std.specs.Borrow.{Bor}
 use Rattle.std.specs.HashMap.{get, HashMap}
@@ -21,7 +21,7 @@ use Rattle.actor_tables.specs.declared.numbers.TypeKey.{TypeKey}
 
 -- Protocols
 
--- These are files below a limit with protocols, in the order of files, each with the full name of its protocol; none is left out.
+-- These are all files below a limit that have protocols, in the order of files, each with the full name of its protocol.
 pub record AreNamedFiles (program : List Entry) (limit : ℕ) (named : List (Bor (List ℕ) × ℕ)) : Type 0 where
   pub full : All (λ n. IsSomeAnd (protocol_of program n.1) (λ p. p.full ≡ n.0.now)) named
   pub complete : (file : ℕ) → file < limit → IsSome (protocol_of program file) → Contains (map (λ n. n.1) named) file
@@ -29,7 +29,7 @@ pub record AreNamedFiles (program : List Entry) (limit : ℕ) (named : List (Bor
   pub below : All (λ n. n.1 < limit) named
   pub few : length named ≤ limit
 
--- each of these files has its place among them
+-- each of these files has its index among them
 abbrev pub FindsNumbers : List ℕ → List ℕ → Type 0
 FindsNumbers files numbers = (file : ℕ) → Contains files file → IsSomeAnd (slice_get numbers file) (λ number. slice_get files number ≡ Some file)
 
@@ -50,7 +50,7 @@ IsStructKey structs key = (key.is_union ≡ false) × (option_map (λ s. s.place
 abbrev pub IsUnionKey : List UnionDecl → TypeKey → Type 0
 IsUnionKey unions key = (key.is_union ≡ true) × (option_map (λ u. u.place) (slice_get unions key.index) ≡ Some key.place)
 
--- the new list has what the old one has and the keys of which this holds, and no other
+-- the new list has exactly the keys of the old one and those with this property
 pub record AddsKeys (IsKey : TypeKey → Type 0) (old new : List TypeKey) : Type 0 where
   pub exact : (key : TypeKey) → Contains new key ↔ (Contains old key ⊎ IsKey key)
 
@@ -66,11 +66,11 @@ key_cmp a b = ordering_then (place_cmp a.place b.place) (ordering_then (bool_cmp
 abbrev pub IsBefore : TypeKey → TypeKey → Type 0
 IsBefore a b = key_cmp a b ≡ Less
 
--- two are the same
+-- whether two are the same
 abbrev pub same_id : TypeId → TypeId → Bool
 same_id a b = (a.file == b.file) && (beq a.is_union b.is_union && (a.index == b.index))
 
--- each of these has its place among them
+-- each of these has its index among them
 abbrev pub GivesNumbers : {S : Type 0} → List TypeId → HashMap TypeId ℕ S → Type 0
 GivesNumbers ids numbers = (id : TypeId) → Contains ids id → IsSomeAnd (get same_id numbers id) (λ number. slice_get ids number ≡ Some id)
 
@@ -79,7 +79,7 @@ GivesNumbers ids numbers = (id : TypeId) → Contains ids id → IsSomeAnd (get 
 abbrev pub numbering_of : SchemaNumbers → Numbering
 numbering_of numbers = record { files = numbers.files.items; types = map decl_of numbers.types.items }
 
--- These are the protocols and types of the program by number, and their numbers can be looked up.
+-- These are the protocols and types of the program by their numbers, and the numbers can be looked up.
 pub record AreNumbersOf (program : List Entry) (numbers : SchemaNumbers) : Type 0 where
   pub files : AreProtocolFiles program numbers.files.items
   pub few : length numbers.files.items ≤ 4096

@@ -1,4 +1,4 @@
--- The rows of structs and of unions, apart.
+-- The rows of structs and of unions, separately.
 use Rattle.std.specs.Prelude.{◌≡◌, ℕ, List}
 use Rattle.std.specs.List.{AllZip}
 use Rattle.ipdl_base.specs.declared.schema.TypeRow.{TypeRow}

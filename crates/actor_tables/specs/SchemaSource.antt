@@ -26,7 +26,7 @@ pub record IsSource (source : SchemaSource) : Type 0 where
   pub names : source.names.now ≡ source.program.now
   pub numbers : AreNumbersOf source.program.now source.numbers
 
--- a declaration stands in the program, and an endpoint's protocol does
+-- a declaration is in the program, or the protocol of an endpoint is
 abbrev pub IsThere : List Entry → DeclId → Type 0
 IsThere program (Builtin type) = Unit {0}
 IsThere program (Using file index) = IsSome (full_name_of program (Using file index))
@@ -35,34 +35,34 @@ IsThere program (Union file index) = IsSome (place_of program (Union file index)
 IsThere program (Protocol file) = IsSome (protocol_of program file)
 IsThere program (Endpoint file managed) = IsSome (protocol_of program file)
 
--- in a file the name inside a base finds neither nothing nor two
+-- in a file the name inside a base finds neither nothing nor two declarations
 abbrev pub FindsSole : List Entry → ℕ → Base → Type 0
 FindsSole program file (Named name argument) = (¬ FindsNone program file name argument) × (¬ FindsTwo program file name argument)
 FindsSole program file (Unique' at nullable inner after place) = FindsSole program file inner
 
--- in a file a name finds neither no protocol nor two
+-- in a file a name finds neither no protocol nor two protocols
 pub record FindsSoleProtocol (program : List Entry) (file : ℕ) (name : List ℕ) : Type 0 where
   pub some : ¬ FindsNoProtocol program file name
   pub one : (d e : DeclId) → ¬ Counts (FindsAsProtocol program file name) (found.Many d e)
 
--- in a file the names inside these parameters, returns or fields do, and inside these types
+-- the same of the names inside parameters, returns or fields, and inside types
 abbrev pub ParamsFindSole : List Entry → ℕ → List Param → Type 0
 ParamsFindSole program file params = All (λ p. FindsSole program file p.spec.base) params
 
 abbrev pub TypesFindSole : List Entry → ℕ → List TypeSpec → Type 0
 TypesFindSole program file types = All (λ t. FindsSole program file t.base) types
 
--- so do the names of managers or of managed protocols
+-- the same of the names of managers or of managed protocols
 abbrev pub NamesFindSole : List Entry → ℕ → List NameAt → Type 0
 NamesFindSole program file names = All (λ n. FindsSoleProtocol program file n.name) names
 
--- so do all names in a message, and its own where it is a constructor
+-- the same of all names in a message, and of its own name if it is a constructor
 pub record MessageFindsSole (program : List Entry) (file : ℕ) (p : ProtocolDecl) (m : MessageDecl) : Type 0 where
   pub params : ParamsFindSole program file m.params
   pub returns : ForSome m.returns (ParamsFindSole program file)
   pub made : IsKindOf p m kind.Constructor → FindsSoleProtocol program file m.name
 
--- so do all names in a protocol, and it has numbers for its messages
+-- the same of all names in a protocol, and there are numbers for its messages
 pub record ProtocolFindsSole (program : List Entry) (file : ℕ) (p : ProtocolDecl) : Type 0 where
   pub managers : NamesFindSole program file p.managers
   pub manages : NamesFindSole program file p.manages

@@ -21,7 +21,7 @@ use Rattle.ipdl_base.specs.declared.schema.TypeRow.TheVariants.{Struct, Union}
 use Rattle.ipdl_base.specs.declared.schema.Shape.{Shape, Builtin, Using, Actor, Named, Array', Maybe', Unique', Endpoint}
 use Rattle.ipdl_base.specs.Builtins.{builtin_name}
 
--- the full name of a protocol by its number; nothing where there is none
+-- the full name of a protocol, or an empty text if there is no protocol
 abbrev pub name_of_protocol : Option ProtocolRow → List ℕ
 name_of_protocol None = []
 name_of_protocol (Some protocol) = protocol.name
@@ -29,7 +29,7 @@ name_of_protocol (Some protocol) = protocol.name
 abbrev pub protocol_name : Schema → ℕ → List ℕ
 protocol_name schema p = name_of_protocol (slice_get schema.protocols p)
 
--- the full name of a struct or a union by its number; nothing where there is none
+-- the full name of a struct or a union, or an empty text if there is no type
 abbrev pub name_of_type : Option TypeRow → List ℕ
 name_of_type None = []
 name_of_type (Some (Struct name fields)) = name
@@ -49,7 +49,7 @@ shape_text schema (Maybe' _ s) = shape_text schema s ++ codes "?"
 shape_text schema (Unique' _ s) = codes "UniquePtr<" ++ shape_text schema s ++ codes ">"
 shape_text schema (Endpoint p managed) = (if managed then codes "ManagedEndpoint<" else codes "Endpoint<") ++ protocol_name schema p ++ codes ">"
 
--- the texts with a comma and a blank between each two
+-- the texts, with a comma and a space between each two
 abbrev pub listed : List (List ℕ) → List ℕ
 listed [] = []
 listed (text ∷ []) = text
@@ -82,7 +82,7 @@ compress_text compress.Plain = codes "plain"
 compress_text compress.Last = codes "compress"
 compress_text compress.All = codes "compressall"
 
--- the kind of a message; one that may wait in the outbox is `lazy`
+-- the kind of a message, which is `lazy` for one that may wait in the outbox
 abbrev pub kind_text : Kind → Bool → List ℕ
 kind_text kind.Normal true = codes "lazy"
 kind_text kind.Normal false = codes "normal"
@@ -106,7 +106,7 @@ manager_text schema p = codes "manager " ++ protocol_name schema p ++ codes "\n"
 abbrev pub managed_text : Schema → ℕ → List ℕ
 managed_text schema p = codes "manages " ++ protocol_name schema p ++ codes "\n"
 
--- the lines of a protocol of this number: its own, and those of its managers, of what it manages and of its messages
+-- the lines of a protocol of this number: its own, those of its managers, of its managed protocols and of its messages
 abbrev pub protocol_text : Schema → ℕ → ProtocolRow → List ℕ
 protocol_text schema number p =
     codes "protocol " ++ decimal number ++ codes " " ++ p.name ++ codes " " ++ semantics_text p.semantics ++ codes " " ++ level_text p.level ++ codes "\n"

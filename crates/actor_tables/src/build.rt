@@ -1,3 +1,5 @@
+//! Builds the schema of a program.
+
 ghost use Rattle.std.specs.Prelude.{◌≡◌, IfOk};
 ghost use Rattle.ipdl_base.specs.Sound.{IsSound};
 ghost use Rattle.program_schema.specs.Clean.{IsClean};
@@ -14,8 +16,9 @@ use name_table::Names;
 use program_schema::clean_is_sound;
 use std::alloc::{AllocError, Global};
 
-/// The schema of a program in which no rule is broken, with what its names find: a row for each protocol, in the order of full
-/// names, and for each struct and union, in the order of the text. It is sound. The only error is want of memory.
+/// Returns the schema of a program that breaks no rule: a row for each protocol, in the order of
+/// full names, and for each struct and union, in text order. The schema is sound. Fails only if
+/// memory runs out.
 pub fn schema(alloc: Global, program: &Program, names: &Names<'_>) -> Result<Schema, AllocError>
     requires clean { IsClean program.now }
     requires of_program { names.now ≡ program.now }

@@ -1,3 +1,5 @@
+//! Marks the types that mention a type that no channel carries.
+
 ghost use Rattle.std.specs.Prelude.{◌≡◌, ◌↔◌, ◌++◌, IfOk, OnOk, IsTrue};
 ghost use Rattle.std.specs.List.{Any, filter_map};
 ghost use Rattle.std.specs.Option.{option_to_list};
@@ -8,15 +10,17 @@ use ipdl_base::{ParamRow, Shape, TypeRow};
 use least_fixed_points::{Need, Node, least_fixed_point};
 use std::alloc::{AllocError, Global};
 
-/// The rows of types, and for each whether it mentions a type that is not carried.
+/// The rows of types, each with a mark: whether the type mentions a type that is not carried.
 #[derive(Drop)]
 pub struct MarkedTypes {
+    /// The rows.
     pub rows: Vec<TypeRow>,
-    /// A mark for what is not carried, which is set, and behind it one for each row.
+    /// A set mark for types that are not carried, and then a mark for each row.
     pub marks: Vec<bool>,
 }
 
-/// The mark that tells whether a shape mentions a type that is not carried; none where it can't.
+/// Returns the index of the mark that decides whether a shape mentions a type that is not carried,
+/// or `None` if it cannot mention one.
 fn part(shape: &Shape) -> Option<usize>
     ensures { result ≡ part_of shape.now }
 {
@@ -32,7 +36,7 @@ fn part(shape: &Shape) -> Option<usize>
     }
 }
 
-/// Adds the mark of a shape.
+/// Adds the index of the mark of a shape, if there is one.
 fn add_part(shape: &Shape, parts: &mut Vec<usize>) -> Result<(), AllocError>
     ensures { OnOk result (parts.new.items ≡ parts.old.items ++ option_to_list (part_of shape.now)) }
 {
@@ -42,7 +46,7 @@ fn add_part(shape: &Shape, parts: &mut Vec<usize>) -> Result<(), AllocError>
     Ok(())
 }
 
-/// The marks of the fields of a struct.
+/// Returns the indices of the marks of the fields of a struct.
 fn field_parts(alloc: Global, fields: &[ParamRow]) -> Result<Vec<usize>, AllocError>
     ensures { IfOk result (λ parts. parts.items ≡ filter_map (λ field. part_of field.shape) fields.now) }
 {
@@ -53,7 +57,7 @@ fn field_parts(alloc: Global, fields: &[ParamRow]) -> Result<Vec<usize>, AllocEr
     Ok(parts)
 }
 
-/// The marks of the components of a union.
+/// Returns the indices of the marks of the components of a union.
 fn component_parts(alloc: Global, components: &[Shape]) -> Result<Vec<usize>, AllocError>
     ensures { IfOk result (λ parts. parts.items ≡ filter_map part_of components.now) }
 {
@@ -64,7 +68,7 @@ fn component_parts(alloc: Global, components: &[Shape]) -> Result<Vec<usize>, Al
     Ok(parts)
 }
 
-/// The node of a struct or a union: it mentions what one of its parts does.
+/// Returns the node of a struct or a union. It is derived if one of its parts is.
 fn node(alloc: Global, row: &TypeRow) -> Result<Node, AllocError>
     ensures { IfOk result (IsNodeOf row.now) }
 {
@@ -78,7 +82,8 @@ fn node(alloc: Global, row: &TypeRow) -> Result<Node, AllocError>
     })
 }
 
-/// The nodes of rows: one that is always derived, for what is not carried, and behind it one for each row.
+/// Returns the nodes of rows: one that is always derived, for types that are not carried, and then
+/// one for each row.
 fn nodes(alloc: Global, rows: &[TypeRow]) -> Result<Vec<Node>, AllocError>
     ensures { IfOk result (λ nodes. AreNodesOf rows.now nodes.items) }
 {
@@ -94,7 +99,7 @@ fn nodes(alloc: Global, rows: &[TypeRow]) -> Result<Vec<Node>, AllocError>
 }
 
 impl MarkedTypes {
-    /// These rows with their marks. The only error is want of memory.
+    /// Marks these rows. Fails only if memory runs out.
     pub fn of(alloc: Global, rows: Vec<TypeRow>) -> Result<MarkedTypes, AllocError>
         ensures rows { IfOk result (λ types. types.rows.items ≡ rows.items) }
         ensures marks { IfOk result AreMarked }
@@ -104,7 +109,7 @@ impl MarkedTypes {
         Ok(MarkedTypes { rows, marks })
     }
 
-    /// Whether a shape mentions a type that is not carried.
+    /// Returns whether a shape mentions a type that is not carried.
     fn mentions(&self, shape: &Shape) -> bool
         requires { AreMarked self.now }
         ensures { IsTrue result ↔ MentionsUncarried self.now.rows.items shape.now }
@@ -118,7 +123,7 @@ impl MarkedTypes {
         }
     }
 
-    /// Whether one of these parameters or returns mentions a type that is not carried.
+    /// Returns whether one of these parameters or returns mentions a type that is not carried.
     pub fn mentions_any(&self, params: &[ParamRow]) -> bool
         requires { AreMarked self.now }
         ensures { IsTrue result ↔ Any (λ p. MentionsUncarried self.now.rows.items p.shape) params.now }

@@ -1,4 +1,4 @@
-//! The schema of a program that breaks no rule, and the text of the tables of any schema
+//! Builds the schema of a program that breaks no rule, and writes the tables of any schema as text
 //! (docs/tables.md).
 #![tactic(auto)]
 

@@ -1,3 +1,5 @@
+//! The rows of protocols and messages.
+
 ghost use Rattle.std.specs.Prelude.{◌↔◌, ◌⊎◌, ◌<◌, IfOk, IsSome, IsSomeAnd, IsTrue};
 ghost use Rattle.std.specs.List.{Any, AllZip};
 ghost use Rattle.std.specs.Option.{option_copied};
@@ -27,7 +29,7 @@ struct NumberedProtocol<'p> {
     protocol: &'p ProtocolDecl,
 }
 
-/// The numbers of the protocols that names find in a file.
+/// Returns the numbers of the protocols that names find in a file.
 fn numbers_of_names(
     alloc: Global,
     source: &SchemaSource<'_, '_>,
@@ -47,7 +49,7 @@ fn numbers_of_names(
     Ok(numbers)
 }
 
-/// The kind of a message.
+/// Returns the kind of a message.
 fn row_kind(
     source: &SchemaSource<'_, '_>,
     file: u32,
@@ -65,7 +67,7 @@ fn row_kind(
     }
 }
 
-/// Whether a channel can carry these parameters and returns.
+/// Returns whether a channel can carry these parameters and returns.
 fn are_carried(types: &MarkedTypes, params: &[ParamRow], returns: Option<&ParamRows>) -> bool
     requires { AreMarked types.now }
     ensures { IsTrue result ↔ ¬ (Any (λ p. MentionsUncarried types.now.rows.items p.shape) params.now
@@ -81,7 +83,7 @@ fn are_carried(types: &MarkedTypes, params: &[ParamRow], returns: Option<&ParamR
     }
 }
 
-/// The row of the message at an index of a protocol.
+/// Returns the row of the message at an index of a protocol.
 fn message_row(
     alloc: Global,
     source: &SchemaSource<'_, '_>,
@@ -117,7 +119,7 @@ fn message_row(
     })
 }
 
-/// The rows of the messages of a protocol.
+/// Returns the rows of the messages of a protocol.
 fn message_rows(
     alloc: Global,
     source: &SchemaSource<'_, '_>,
@@ -139,7 +141,7 @@ fn message_rows(
     Ok(rows)
 }
 
-/// The row of a protocol.
+/// Returns the row of a protocol.
 fn protocol_row(
     alloc: Global,
     source: &SchemaSource<'_, '_>,
@@ -168,7 +170,7 @@ fn protocol_row(
     })
 }
 
-/// The row of the protocol of a file, which has this number.
+/// Returns the row of the protocol of a file. `number` is the number of this protocol.
 fn row_of_file(
     alloc: Global,
     source: &SchemaSource<'_, '_>,
@@ -196,7 +198,7 @@ fn row_of_file(
     protocol_row(alloc, source, types, &of)
 }
 
-/// The rows of the protocols of a program.
+/// Returns the rows of the protocols of a program.
 pub fn protocol_rows(
     alloc: Global,
     source: &SchemaSource<'_, '_>,

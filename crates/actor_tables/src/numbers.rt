@@ -1,3 +1,5 @@
+//! The numbers of the protocols and types of a program.
+
 ghost use Rattle.std.specs.Prelude.{◌≡◌, ◌↔◌, ◌≤◌, ◌<◌, [], map, length, IfOk, OnOk};
 ghost use Rattle.std.specs.List.{All, AllPairs, Contains};
 ghost use Rattle.ipdl_syntax.specs.Programs.{IsProgram, BearTheirNames};
@@ -9,39 +11,45 @@ use ipdl_syntax::{Entry, StructDecl, UnionDecl, Unit};
 use std::alloc::{AllocError, Global};
 use std::collections::HashMap;
 
-/// A struct or a union, by its file and its place in the list of structs or of unions of that.
+/// A struct or a union, by its file and its index among the structs or the unions of the file.
 #[derive(Clone, Copy, Debug, PartialEq, Eq, Hash)]
 pub struct TypeId {
+    /// The number of its file.
     pub file: u32,
+    /// Whether it is a union.
     pub is_union: bool,
+    /// Its index among the structs, or among the unions.
     pub index: usize,
 }
 
-/// A struct or a union, by what the order of types goes by. Its file is that of its place.
+/// The key by which structs and unions are ordered. The file is that of the place.
 #[derive(Clone, Copy, Debug, PartialEq, Eq, PartialOrd, Ord)]
 pub struct TypeKey {
+    /// The place of its name.
     pub place: Place,
+    /// Whether it is a union.
     pub is_union: bool,
+    /// Its index among the structs, or among the unions.
     pub index: usize,
 }
 
-/// The protocols and the types of a program by number, and the numbers of both.
+/// The protocols and the types of a program by their numbers, and the numbers of both.
 #[derive(Drop)]
 pub struct SchemaNumbers {
-    /// The files of the protocols.
+    /// The files of the protocols, in the order of the protocols' numbers.
     pub files: Vec<u32>,
-    /// The structs and unions.
+    /// The structs and unions, in the order of their numbers.
     pub types: Vec<TypeId>,
-    /// For each file the number of its protocol, and some number where it has none.
+    /// For each file, the number of its protocol. It has no meaning for a file without a protocol.
     pub of_files: Vec<u32>,
     /// The number of each struct and union.
     pub of_types: HashMap<TypeId, u32>,
 }
 
-/// The full name of the protocol of a file, and the file.
+/// The full name of the protocol of a file, and the number of the file.
 type NamedFile<'p> = (&'p [u8], u32);
 
-/// The files that have protocols, with the full names of these.
+/// Returns the files that have protocols, with the full names of their protocols.
 fn named_files(alloc: Global, program: &[Entry]) -> Result<Vec<NamedFile<'_>>, AllocError>
     requires few { length program.now ≤ 4096 }
     ensures { IfOk result (λ named. AreNamedFiles program.now (length program.now) named.items) }
@@ -55,14 +63,14 @@ fn named_files(alloc: Global, program: &[Entry]) -> Result<Vec<NamedFile<'_>>, A
     Ok(named)
 }
 
-/// The files, without the names.
+/// Returns the files without the names.
 fn files_of(alloc: Global, named: &[NamedFile<'_>]) -> Result<Vec<u32>, AllocError>
     ensures { IfOk result (λ files. files.items ≡ map (λ n. n.1) named.now) }
 {
     named.iter().map(|named| named.1).collect(alloc)
 }
 
-/// The files that have protocols, in the order of the full names of these.
+/// Returns the files that have protocols, in the order of the protocols' full names.
 fn protocol_files(alloc: Global, program: &[Entry]) -> Result<Vec<u32>, AllocError>
     requires is_program { IsProgram program.now }
     requires named { BearTheirNames program.now }
@@ -74,7 +82,8 @@ fn protocol_files(alloc: Global, program: &[Entry]) -> Result<Vec<u32>, AllocErr
     files_of(alloc, named.as_slice())
 }
 
-/// For each of these files its place among them, in a list of this many.
+/// Returns a list of length `count` that has, at the number of each of these files, its index among
+/// them.
 fn numbers_of_files(alloc: Global, count: usize, files: &[u32]) -> Result<Vec<u32>, AllocError>
     requires few { length files.now ≤ 4096 }
     requires below { All (λ file. file < count) files.now }
@@ -115,7 +124,7 @@ fn add_unions(unions: &[UnionDecl], keys: &mut Vec<TypeKey>) -> Result<(), Alloc
     Ok(())
 }
 
-/// The keys of the structs and unions of a program.
+/// Returns the keys of the structs and unions of a program.
 fn type_keys(alloc: Global, program: &[Entry]) -> Result<Vec<TypeKey>, AllocError>
     ensures { IfOk result (λ keys. AddsKeys (IsKeyBelow program.now (length program.now)) [] keys.items) }
 {
@@ -127,7 +136,7 @@ fn type_keys(alloc: Global, program: &[Entry]) -> Result<Vec<TypeKey>, AllocErro
     Ok(keys)
 }
 
-/// These keys, each once and in order.
+/// Returns these keys, each once and in order.
 fn sorted_keys(keys: Vec<TypeKey>) -> Vec<TypeKey>
     ensures ordered { AllPairs IsBefore result.items }
     ensures exact { (key : TypeKey) → Contains result.items key ↔ Contains keys.items key }
@@ -138,7 +147,7 @@ fn sorted_keys(keys: Vec<TypeKey>) -> Vec<TypeKey>
     keys
 }
 
-/// The structs and unions that have these keys.
+/// Returns the structs and unions that have these keys.
 fn ids_of(alloc: Global, keys: &[TypeKey]) -> Result<Vec<TypeId>, AllocError>
     ensures { IfOk result (λ ids. ids.items ≡ map id_of_key keys.now) }
 {
@@ -151,7 +160,7 @@ fn ids_of(alloc: Global, keys: &[TypeKey]) -> Result<Vec<TypeId>, AllocError>
         .collect(alloc)
 }
 
-/// The structs and unions of a program, in the order of the text.
+/// Returns the structs and unions of a program in text order.
 fn type_ids(alloc: Global, program: &[Entry]) -> Result<Vec<TypeId>, AllocError>
     requires { IsProgram program.now }
     ensures { IfOk result (λ ids. AreTypes program.now (map decl_of ids.items)) }
@@ -160,7 +169,8 @@ fn type_ids(alloc: Global, program: &[Entry]) -> Result<Vec<TypeId>, AllocError>
     ids_of(alloc, keys.as_slice())
 }
 
-/// For each of these its place among them. More of them than there are numbers count as want of memory.
+/// Returns for each of these types its index among them. More types than there are numbers count as
+/// an allocation failure.
 fn numbers_of_types(alloc: Global, ids: &[TypeId]) -> Result<HashMap<TypeId, u32>, AllocError>
     ensures { IfOk result (GivesNumbers ids.now) }
 {
@@ -175,7 +185,7 @@ fn numbers_of_types(alloc: Global, ids: &[TypeId]) -> Result<HashMap<TypeId, u32
 }
 
 impl SchemaNumbers {
-    /// The numbers of a program. The only error is want of memory.
+    /// Numbers the protocols and types of a program. Fails only if memory runs out.
     pub fn of(alloc: Global, program: &[Entry]) -> Result<SchemaNumbers, AllocError>
         requires is_program { IsProgram program.now }
         requires named { BearTheirNames program.now }

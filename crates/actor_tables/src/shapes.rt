@@ -1,3 +1,5 @@
+//! The shapes of types.
+
 ghost use Rattle.std.specs.Prelude.{◌≡◌, IfOk};
 ghost use Rattle.program_schema.specs.Shapes.{IsShapeOf, IsShapeOfBase, IsShapeOfDecl, IsSuffixed};
 ghost use Rattle.actor_tables.specs.Numbered.{numbering_of};
@@ -10,7 +12,7 @@ use ipdl_syntax::{Base, Suffix, TypeSpec};
 use name_table::{DeclId, Found};
 use std::alloc::{AllocError, Global};
 
-/// The shape that a declaration stands for, behind `nullable` or not.
+/// Returns the shape of a declaration. `nullable` is whether the type begins with that word.
 fn shape_of_decl(
     alloc: Global,
     source: &SchemaSource<'_, '_>,
@@ -43,7 +45,7 @@ fn shape_of_decl(
     }
 }
 
-/// A shape with suffixes, applied from left to right.
+/// Applies suffixes to a shape, from left to right.
 fn suffixed(alloc: Global, base: Shape, suffixes: &[Suffix]) -> Result<Shape, AllocError>
     ensures { IfOk result (IsSuffixed (λ shape. shape ≡ base) suffixes.now) }
 {
@@ -57,7 +59,7 @@ fn suffixed(alloc: Global, base: Shape, suffixes: &[Suffix]) -> Result<Shape, Al
     Ok(shape)
 }
 
-/// The shape that a base stands for in a file, behind `nullable` or not.
+/// Returns the shape of a base in a file. `nullable` is whether the type begins with that word.
 fn shape_of_base(
     alloc: Global,
     source: &SchemaSource<'_, '_>,
@@ -82,7 +84,7 @@ fn shape_of_base(
     }
 }
 
-/// The shape that a type stands for in a file.
+/// Returns the shape of a type in a file.
 pub fn shape_of(
     alloc: Global,
     source: &SchemaSource<'_, '_>,

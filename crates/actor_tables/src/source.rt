@@ -1,3 +1,5 @@
+//! What the rows of a schema are made from.
+
 ghost use Rattle.std.specs.Prelude.{◌≡◌, IsSome, IfOk, Some};
 ghost use Rattle.name_table.specs.Declares.{full_name_of};
 ghost use Rattle.name_table.specs.Decls.{FindsOneProtocol, protocol_of};
@@ -12,16 +14,19 @@ use ipdl_syntax::Entry;
 use name_table::{DeclId, Found, Names};
 use std::alloc::{AllocError, Global};
 
-/// What the rows of a schema are made from: a program, what its names find, and its numbers.
+/// What the rows of a schema are made from: a program, the table of its names, and its numbers.
 #[derive(Drop)]
 pub struct SchemaSource<'s, 'p> {
+    /// The program.
     pub program: &'s [Entry],
+    /// The table of its names.
     pub names: &'s Names<'p>,
+    /// The numbers of its protocols and types.
     pub numbers: SchemaNumbers,
 }
 
 impl SchemaSource<'_, '_> {
-    /// The number of the protocol of a file.
+    /// Returns the number of the protocol of a file.
     pub fn protocol_number(&self, file: u32) -> u32
         requires source { IsSource self.now }
         requires there { IsSome (protocol_of self.now.program.now file) }
@@ -33,7 +38,7 @@ impl SchemaSource<'_, '_> {
         }
     }
 
-    /// The number of a struct or a union.
+    /// Returns the number of a struct or a union.
     pub fn type_number(&self, id: TypeId) -> u32
         requires source { IsSource self.now }
         requires there { IsSome (place_of self.now.program.now (decl_of id)) }
@@ -45,7 +50,7 @@ impl SchemaSource<'_, '_> {
         }
     }
 
-    /// The number of the protocol that a name finds in a file, where it finds one.
+    /// Returns the number of the one protocol that a name finds in a file.
     pub fn number_of_name(&self, file: u32, name: &Name) -> u32
         requires source { IsSource self.now }
         requires sole { FindsSoleProtocol self.now.program.now file name.now }
@@ -61,7 +66,7 @@ impl SchemaSource<'_, '_> {
     }
 }
 
-/// The whole text of a `using`, where it is there.
+/// Returns the full text of a `using`.
 pub fn using_name(
     alloc: Global,
     program: &[Entry],

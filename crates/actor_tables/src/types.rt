@@ -1,3 +1,5 @@
+//! The rows of structs and unions.
+
 ghost use Rattle.std.specs.Prelude.{IfOk, IsSome};
 ghost use Rattle.std.specs.List.{AllZip};
 ghost use Rattle.std.specs.Option.{ForSome, option_copied};
@@ -17,7 +19,7 @@ use ipdl_syntax::{Param, Params, StructDecl, TypeSpec, UnionDecl};
 use name_table::{struct_of, union_of};
 use std::alloc::{AllocError, Global};
 
-/// The row of a parameter, a return or a field.
+/// Returns the row of a parameter, a return or a field.
 fn param_row(
     alloc: Global,
     source: &SchemaSource<'_, '_>,
@@ -34,7 +36,7 @@ fn param_row(
     })
 }
 
-/// The rows of parameters, returns or fields.
+/// Returns the rows of parameters, returns or fields.
 pub fn param_rows(
     alloc: Global,
     source: &SchemaSource<'_, '_>,
@@ -52,7 +54,7 @@ pub fn param_rows(
     Ok(rows)
 }
 
-/// The rows of returns, where there are returns.
+/// Returns the rows of returns, or `None` for a message without returns.
 pub fn return_rows(
     alloc: Global,
     source: &SchemaSource<'_, '_>,
@@ -72,7 +74,7 @@ pub fn return_rows(
     }
 }
 
-/// The shapes of the components of a union.
+/// Returns the shapes of the components of a union.
 fn component_shapes(
     alloc: Global,
     source: &SchemaSource<'_, '_>,
@@ -90,7 +92,7 @@ fn component_shapes(
     Ok(shapes)
 }
 
-/// The row of a struct.
+/// Returns the row of a struct.
 fn struct_row(
     alloc: Global,
     source: &SchemaSource<'_, '_>,
@@ -105,7 +107,7 @@ fn struct_row(
     Ok(TypeRow::Struct(item.full.copy(alloc)?, Items::from_vec(fields)))
 }
 
-/// The row of a union.
+/// Returns the row of a union.
 fn union_row(
     alloc: Global,
     source: &SchemaSource<'_, '_>,
@@ -120,7 +122,7 @@ fn union_row(
     Ok(TypeRow::Union(item.full.copy(alloc)?, Items::from_vec(components)))
 }
 
-/// The row of a struct or a union.
+/// Returns the row of a struct or a union.
 fn type_row(alloc: Global, source: &SchemaSource<'_, '_>, id: TypeId) -> Result<TypeRow, AllocError>
     requires source { IsSource source.now }
     requires clean { IsClean source.now.program.now }
@@ -140,7 +142,7 @@ fn type_row(alloc: Global, source: &SchemaSource<'_, '_>, id: TypeId) -> Result<
     }
 }
 
-/// The rows of the structs and unions of a program.
+/// Returns the rows of the structs and unions of a program.
 pub fn type_rows(alloc: Global, source: &SchemaSource<'_, '_>) -> Result<Vec<TypeRow>, AllocError>
     requires source { IsSource source.now }
     requires clean { IsClean source.now.program.now }

@@ -1,9 +1,11 @@
+//! The words and names that tables have.
+
 ghost use Rattle.std.specs.Prelude.{◌≡◌};
 ghost use Rattle.actor_tables.specs.TableText as text;
 
 use ipdl_base::{Compress, Direction, Kind, Level, Schema, Semantics, TypeRow};
 
-/// The word for a semantics.
+/// Returns the word for a semantics.
 pub fn semantics_word(semantics: Semantics) -> &'static [u8]
     ensures { result.now ≡ text.semantics_text semantics }
 {
@@ -13,7 +15,7 @@ pub fn semantics_word(semantics: Semantics) -> &'static [u8]
     }
 }
 
-/// The word for a level.
+/// Returns the word for a level.
 pub fn level_word(level: Level) -> &'static [u8]
     ensures { result.now ≡ text.level_text level }
 {
@@ -24,7 +26,7 @@ pub fn level_word(level: Level) -> &'static [u8]
     }
 }
 
-/// The word for a direction.
+/// Returns the word for a direction.
 pub fn direction_word(direction: Direction) -> &'static [u8]
     ensures { result.now ≡ text.direction_text direction }
 {
@@ -35,7 +37,7 @@ pub fn direction_word(direction: Direction) -> &'static [u8]
     }
 }
 
-/// The word for a compression.
+/// Returns the word for a compression.
 pub fn compress_word(compress: Compress) -> &'static [u8]
     ensures { result.now ≡ text.compress_text compress }
 {
@@ -46,7 +48,7 @@ pub fn compress_word(compress: Compress) -> &'static [u8]
     }
 }
 
-/// The word for a kind; a normal message that may wait in the outbox is `lazy`.
+/// Returns the word for a kind. It is `lazy` for a normal message that may wait in the outbox.
 pub fn kind_word(kind: Kind, lazy: bool) -> &'static [u8]
     ensures { result.now ≡ text.kind_text kind lazy }
 {
@@ -58,7 +60,8 @@ pub fn kind_word(kind: Kind, lazy: bool) -> &'static [u8]
     }
 }
 
-/// The full name of the protocol with this number, empty where there is none.
+/// Returns the full name of the protocol with this number, or an empty name if there is no such
+/// protocol.
 pub fn protocol_name(schema: &Schema, number: u32) -> &[u8]
     ensures { result.now ≡ text.protocol_name schema.now number }
 {
@@ -68,7 +71,8 @@ pub fn protocol_name(schema: &Schema, number: u32) -> &[u8]
     }
 }
 
-/// The full name of the struct or union with this number, empty where there is none.
+/// Returns the full name of the struct or union with this number, or an empty name if there is no
+/// such type.
 pub fn type_name(schema: &Schema, number: u32) -> &[u8]
     ensures { result.now ≡ text.type_name schema.now number }
 {

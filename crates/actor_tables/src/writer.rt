@@ -1,3 +1,5 @@
+//! Writes the tables of a schema as text.
+
 ghost use Rattle.std.specs.Prelude.{◌≡◌, ◌++◌, if◌then◌else◌, [], List, map, IfOk, OnOk, codes};
 ghost use Rattle.std.specs.List.{flat_map};
 ghost use Rattle.std.specs.Option.{option_copied};
@@ -11,39 +13,39 @@ use ipdl_base::{MessageRow, ParamRow, ParamRows, ProtocolRow, Schema, Shape, Typ
 use itoa::Buffer;
 use std::alloc::{AllocError, Global};
 
-/// How many bytes the line of a message takes, about: for so many there is room before the first.
+/// The approximate length of the line of a message, for which room is reserved before the first line.
 const MESSAGE_LEN: usize = 80;
 
-/// Appends a name with a text before it and one behind it.
+/// Appends a text, a name and another text.
 fn push_around(
     out: &mut Vec<u8>,
     before: &[u8],
     name: &[u8],
-    behind: &[u8],
+    following: &[u8],
 ) -> Result<(), AllocError>
-    ensures { OnOk result (out.new.items ≡ out.old.items ++ (before.now ++ name.now ++ behind.now)) }
+    ensures { OnOk result (out.new.items ≡ out.old.items ++ (before.now ++ name.now ++ following.now)) }
 {
     out.extend_from_slice(before)?;
     out.extend_from_slice(name)?;
-    out.extend_from_slice(behind)
+    out.extend_from_slice(following)
 }
 
-/// Appends a name with a text before it.
-fn push_behind(out: &mut Vec<u8>, before: &[u8], name: &[u8]) -> Result<(), AllocError>
+/// Appends a text and a name.
+fn push_after(out: &mut Vec<u8>, before: &[u8], name: &[u8]) -> Result<(), AllocError>
     ensures { OnOk result (out.new.items ≡ out.old.items ++ (before.now ++ name.now)) }
 {
     out.extend_from_slice(before)?;
     out.extend_from_slice(name)
 }
 
-/// What stands before the name of a protocol in the type of its actors.
+/// Returns the text before the name of a protocol in the type of its actors.
 fn before_actor(nullable: bool) -> &'static [u8]
     ensures { result.now ≡ if nullable then codes "nullable " else [] }
 {
     if nullable { b"nullable " } else { b"" }
 }
 
-/// What stands before the name of a protocol in the type of its endpoints.
+/// Returns the text before the name of a protocol in the type of its endpoints.
 fn before_endpoint(managed: bool) -> &'static [u8]
     ensures { result.now ≡ if managed then codes "ManagedEndpoint<" else codes "Endpoint<" }
 {
@@ -62,7 +64,7 @@ fn push_shape(out: &mut Vec<u8>, schema: &Schema, shape: &Shape) -> Result<(), A
         Shape::Builtin(builtin) => out.extend_from_slice(builtin.name()),
         Shape::Using(name) => out.extend_from_slice(name.as_slice()),
         Shape::Actor(number, nullable) => {
-            push_behind(out, before_actor(*nullable), protocol_name(schema, *number))
+            push_after(out, before_actor(*nullable), protocol_name(schema, *number))
         }
         Shape::Named(number) => out.extend_from_slice(type_name(schema, *number)),
         Shape::Array(element) => {
@@ -142,7 +144,7 @@ fn push_params(out: &mut Vec<u8>, schema: &Schema, params: &[ParamRow]) -> Resul
     Ok(out.push(b')')?)
 }
 
-/// Appends the returns of a message, where it has them.
+/// Appends the returns of a message, if it has any.
 fn push_returns(
     out: &mut Vec<u8>,
     schema: &Schema,
@@ -159,7 +161,7 @@ fn push_returns(
     }
 }
 
-/// Appends a word and a blank.
+/// Appends a word and a space.
 fn push_word(out: &mut Vec<u8>, word: &[u8]) -> Result<(), AllocError>
     ensures { OnOk result (out.new.items ≡ out.old.items ++ (word.now ++ codes " ")) }
 {
@@ -167,7 +169,7 @@ fn push_word(out: &mut Vec<u8>, word: &[u8]) -> Result<(), AllocError>
     Ok(out.push(b' ')?)
 }
 
-/// Appends a number and a blank.
+/// Appends a number and a space.
 fn push_number(out: &mut Vec<u8>, number: u64) -> Result<(), AllocError>
     ensures { OnOk result (out.new.items ≡ out.old.items ++ (decimal number ++ codes " ")) }
 {
@@ -175,7 +177,7 @@ fn push_number(out: &mut Vec<u8>, number: u64) -> Result<(), AllocError>
     push_word(out, digits.format(number).as_bytes())
 }
 
-/// Appends which way a message goes, how it is sent, and at what level.
+/// Appends the direction, the semantics and the level of a message.
 fn push_sending(out: &mut Vec<u8>, message: &MessageRow) -> Result<(), AllocError>
     ensures { OnOk result (out.new.items ≡ out.old.items ++ (
         text.direction_text message.now.direction ++ codes " " ++ text.semantics_text message.now.semantics ++ codes " "
@@ -187,7 +189,7 @@ fn push_sending(out: &mut Vec<u8>, message: &MessageRow) -> Result<(), AllocErro
     push_word(out, level_word(message.level))
 }
 
-/// Appends how a message is compressed, and what it is.
+/// Appends the compression and the kind of a message.
 fn push_handling(out: &mut Vec<u8>, message: &MessageRow) -> Result<(), AllocError>
     ensures { OnOk result (out.new.items ≡ out.old.items ++ (
         text.compress_text message.now.compress ++ codes " " ++ text.kind_text message.now.kind message.now.lazy ++ codes " "
@@ -197,7 +199,7 @@ fn push_handling(out: &mut Vec<u8>, message: &MessageRow) -> Result<(), AllocErr
     push_word(out, kind_word(message.kind, message.lazy))
 }
 
-/// Appends what a message's line has before the name.
+/// Appends the part of a message's line before the name.
 fn push_message_head(out: &mut Vec<u8>, message: &MessageRow) -> Result<(), AllocError>
     ensures { OnOk result (out.new.items ≡ out.old.items ++ (
         codes "message " ++ decimal message.now.number ++ codes " " ++ text.direction_text message.now.direction
@@ -247,7 +249,7 @@ fn push_managers(out: &mut Vec<u8>, schema: &Schema, managers: &[u32]) -> Result
     Ok(())
 }
 
-/// Appends the lines of the protocols that a protocol manages.
+/// Appends the lines of a protocol's managed protocols.
 fn push_managed(out: &mut Vec<u8>, schema: &Schema, manages: &[u32]) -> Result<(), AllocError>
     ensures { OnOk result (out.new.items ≡ out.old.items ++ flat_map (text.managed_text schema.now) manages.now) }
 {
@@ -365,7 +367,7 @@ fn push_union(
 {
     out.extend_from_slice(b"union ")?;
     push_number(out, number as u64)?;
-    push_behind(out, name, b" (")?;
+    push_after(out, name, b" (")?;
     push_listed_shapes(out, schema, components)?;
     out.extend_from_slice(b")\n")
 }
@@ -399,8 +401,9 @@ fn push_types(out: &mut Vec<u8>, schema: &Schema, types: &[TypeRow]) -> Result<(
     Ok(())
 }
 
-/// The tables of a schema as text: each protocol in the order of numbers with its managers, what it
-/// manages and its messages, and then each struct and union (docs/tables.md).
+/// Returns the tables of a schema as text: each protocol in the order of numbers, with its
+/// managers, its managed protocols and its messages, and then each struct and union
+/// (docs/tables.md).
 pub fn table_text(alloc: Global, schema: &Schema) -> Result<Vec<u8>, AllocError>
     ensures { IfOk result (λ written. written.items ≡ text.table_text schema.now) }
 {

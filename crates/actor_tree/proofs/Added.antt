@@ -1,4 +1,4 @@
--- The links stand for the living actors and one more, which is the youngest.
+-- The links represent the living actors and one more, which is the youngest.
 use Rattle.std.proofs.Common.{◌≡◌, ◌≢◌, inl, inr, ℕ, ℤ, Bool, true, false, cond, List, [], ◌∷◌, ◌++◌, Option, Some, None, is_some, refl, sym, ap, ◌∙◌, subst, int_eq}
 use Rattle.std.specs.Option.{option_map}
 use Rattle.actor_tree.specs.declared.actor.Actor.{Actor}
@@ -7,7 +7,8 @@ use Rattle.actor_tree.specs.Tree.{actor_of, IsTree}
 use Rattle.actor_tree.specs.Node.{instead_of, attached}
 use Rattle.linked_lists.specs.Links.{key_eq}
 use Rattle.linked_lists.specs.Neighbours.{is_the, head, last, after, before, IsIn, AreDistinct}
-use Rattle.actor_tree.specs.Links.{top_id, managed_ids, link, node_of, IsLinkedAt, AreLinked}
+use Rattle.ipdl_base.specs.Sides.{top_id}
+use Rattle.actor_tree.specs.Links.{managed_ids, link, node_of, IsLinkedAt, AreLinked}
 use Rattle.actor_tree.proofs.Ids.{id_test, same, other, same_or_other, Has, lives-true, lives-false}
 use Rattle.actor_tree.proofs.Kept.{IsTree-append}
 use Rattle.linked_lists.proofs.KeyTest.{key_test}

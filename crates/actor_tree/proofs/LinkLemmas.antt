@@ -1,4 +1,4 @@
--- Where the links stand for the living actors.
+-- Where the links represent the living actors.
 use Rattle.std.proofs.Common.{◌≡◌, inl, inr, ℕ, ℤ, false, cond, List, Option, Some, None, is_some, refl, sym, ap, ◌∙◌, subst, int_eq}
 use Rattle.actor_tree.specs.declared.actor.Actor.{Actor}
 use Rattle.actor_tree.specs.declared.node.Node.{Node}

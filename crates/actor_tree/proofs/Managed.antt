@@ -5,7 +5,8 @@ use Rattle.actor_tree.specs.declared.actor.Actor.{Actor}
 use Rattle.actor_tree.specs.Tree.{actor_of, without, AreMadeAfter, IsTree}
 use Rattle.actor_tree.specs.Laws.{EachOnce}
 use Rattle.linked_lists.specs.Neighbours.{omit, IsIn, AreDistinct}
-use Rattle.actor_tree.specs.Links.{top_id, is_under, managed_ids}
+use Rattle.ipdl_base.specs.Sides.{top_id}
+use Rattle.actor_tree.specs.Links.{is_under, managed_ids}
 use Rattle.actor_tree.proofs.Ids.{id_test, same, other, same_or_other, Has, has, has_not, lives-false, Has-left, Has-last, without-same, without-other}
 use Rattle.actor_tree.proofs.Below.{apart}
 use Rattle.linked_lists.proofs.NeighbourLemmas.{omit-same, omit-other}

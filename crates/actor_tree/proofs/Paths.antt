@@ -4,7 +4,8 @@ use Rattle.actor_tree.specs.declared.actor.Actor.{Actor}
 use Rattle.actor_tree.specs.Tree.{actor_of, without, AreMadeAfter, IsTree}
 use Rattle.actor_tree.specs.Fall.{below, post_order, first_of}
 use Rattle.linked_lists.specs.Neighbours.{head, omit, IsIn}
-use Rattle.actor_tree.specs.Links.{top_id, managed_ids}
+use Rattle.ipdl_base.specs.Sides.{top_id}
+use Rattle.actor_tree.specs.Links.{managed_ids}
 use Rattle.actor_tree.specs.Path.{Path, here, down}
 use Rattle.actor_tree.proofs.Ids.{id_test, same, other, same_or_other, Has, has, has_not, Has-left, Has-last}
 use Rattle.actor_tree.proofs.Below.{below-same, below-other, post_order-same, post_order-other, apart}

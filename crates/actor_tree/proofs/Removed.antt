@@ -1,4 +1,4 @@
--- The links stand for the living actors without one that manages nobody.
+-- The links represent the living actors without one that manages nobody.
 use Rattle.std.proofs.Common.{◌≡◌, ◌≢◌, ◌⊎◌, inl, inr, ℕ, ℤ, true, false, cond, List, [], Option, Some, None, is_some, refl, sym, ap, ◌∙◌, subst, int_eq}
 use Rattle.std.specs.Option.{option_map}
 use Rattle.actor_tree.specs.declared.actor.Actor.{Actor}
@@ -7,7 +7,8 @@ use Rattle.actor_tree.specs.Tree.{actor_of, without, IsTree}
 use Rattle.actor_tree.specs.Node.{instead_of, detached}
 use Rattle.linked_lists.specs.Links.{key_eq}
 use Rattle.linked_lists.specs.Neighbours.{is_the, head, last, after, before, omit, IsIn, AreDistinct}
-use Rattle.actor_tree.specs.Links.{top_id, managed_ids, link, node_of, IsLinkedAt, AreLinked}
+use Rattle.ipdl_base.specs.Sides.{top_id}
+use Rattle.actor_tree.specs.Links.{managed_ids, link, node_of, IsLinkedAt, AreLinked}
 use Rattle.actor_tree.proofs.Ids.{id_test, same, other, same_or_other, Has}
 use Rattle.linked_lists.proofs.NeighbourLemmas.{before-of-in, last-of-in, is_the-other, head-in, after-in, after-none, before-none, omit-none, head-omit, last-omit, after-omit, before-omit, omit-in}
 use Rattle.actor_tree.proofs.Managed.{of-id, of-without-same, of-without-other, under-true, under-is, managed-without, managed-has, managed-once, managed-of, managed-in, tree-once, tree-manager}

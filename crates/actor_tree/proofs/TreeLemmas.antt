@@ -9,7 +9,8 @@ use Rattle.actor_tree.specs.Tree.{actor_of, top, without, IsTree}
 use Rattle.actor_tree.specs.Fall.{post_order, first_of, IsNext}
 use Rattle.actor_tree.specs.Node.{attached, detached, first_link, last_link}
 use Rattle.linked_lists.specs.Neighbours.{head, last, IsIn, omit}
-use Rattle.actor_tree.specs.Links.{top_id, managed_ids, link, node_of, IsLinkedAt, AreLinked}
+use Rattle.ipdl_base.specs.Sides.{top_id}
+use Rattle.actor_tree.specs.Links.{managed_ids, link, node_of, IsLinkedAt, AreLinked}
 use Rattle.actor_tree.specs.Path.{Path, here, down}
 use Rattle.actor_tree.specs.Linked.{key_of, node_at, actor_at, keys_of, living_of, IsLinked, StandFor, LeadsTo, IsLowest, Resumes, resume_of}
 use Rattle.actor_tree.proofs.Ids.{same, other, same_or_other, without-same, without-other}
@@ -265,7 +266,7 @@ module _ (l l' : Links) (cut : Slab Node) (root : ℤ) (key : ℕ) (n : Node)
       others
       (λ k m. at k ∙ ap (option_map (detached n k)) (up.others k m) ∙ ap (λ v. option_map (detached v k) (node_at l k)) own_node)
 
-  -- the fall goes on at the manager
+  -- the fall continues at the manager
   goes_on : n.actor.id ≢ root → Resumes l' (option_map (λ at. record { root = root; at = at }) n.manager)
   goes_on m =
       let p = path-last actors root w.id w.path (λ e. m (the_id ∙ e)) in

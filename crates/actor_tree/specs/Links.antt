@@ -1,14 +1,11 @@
--- The links of the living actors, as they stand for the list of them in order of making.
+-- The links of the living actors, as they represent the list of them in order of making.
 use Rattle.std.specs.Prelude.{◌≡◌, ℕ, ℤ, pos, Bool, not, ◌&&◌, List, [], ◌∷◌, Option, Some, None, if◌then◌else◌}
 use Rattle.std.specs.Ordering.{int_eq}
 use Rattle.linked_lists.specs.Neighbours.{head, last, after, before}
 use Rattle.actor_tree.specs.declared.actor.Actor.{Actor}
 use Rattle.actor_tree.specs.declared.node.Node.{Node}
+use Rattle.ipdl_base.specs.Sides.{top_id}
 use Rattle.actor_tree.specs.Tree.{actor_of, IsTree}
-
--- the id of the top actor
-abbrev pub top_id : ℤ
-top_id = pos 2147483647
 
 -- whether the actor of an id manages that actor
 abbrev pub is_under : ℤ → Actor → Bool
@@ -40,7 +37,7 @@ abbrev pub IsLinkedAt : (ℤ → Option ℕ) → (ℕ → Option Node) → List 
 IsLinkedAt key_of node actors i None = key_of i ≡ None
 IsLinkedAt key_of node actors i (Some a) = (key : ℕ) × (key_of i ≡ Some key) × (node key ≡ Some (node_of key_of actors a))
 
--- the links stand for the living actors
+-- the links represent the living actors
 pub record AreLinked (key_of : ℤ → Option ℕ) (node : ℕ → Option Node) (actors : List Actor) : Type 0 where
   pub tree : IsTree actors
   pub each : (i : ℤ) → IsLinkedAt key_of node actors i (actor_of i actors)

@@ -4,7 +4,7 @@ use Rattle.linked_lists.specs.Neighbours.{is_the}
 use Rattle.linked_lists.specs.Links.{key_eq}
 use Rattle.actor_tree.specs.declared.node.Node.{Node}
 
--- the link to the manager, where there is none to a sibling
+-- the link to the manager, if there is no link to a sibling
 abbrev pub instead_of : Option ℕ → Option ℕ → Option ℕ
 instead_of None manager = manager
 instead_of (Some sibling) manager = None
@@ -35,7 +35,7 @@ with_previous at link k n = record n { previous = if is_the key_eq at k then lin
 abbrev pub with_next : Option ℕ → Option ℕ → ℕ → Node → Node
 with_next at link k n = record n { next = if is_the key_eq at k then link else n.next }
 
--- the node at k, once the node at `key` is the youngest under `manager`, behind `previous`
+-- the node at k, once the node at `key` is the youngest under `manager`, after `previous`
 abbrev pub attached : ℕ → Option ℕ → ℕ → ℕ → Node → Node
 attached manager previous key k n = record n {
   first = if is_the key_eq (instead_of previous (Some manager)) k then Some key else n.first;

@@ -7,8 +7,9 @@ ghost use Rattle.actor_tree.specs.Node.{with_first, with_last, with_previous, wi
 use super::actor::Actor;
 use slab::Slab;
 
-/// A living actor with its links, each the key of a node: to its manager, to the oldest and the youngest of those that it
-/// manages, and to the next older and the next younger of its manager's.
+/// A living actor with its links, each the key of a node: to its manager, to the oldest and the
+/// youngest of the actors that it manages, and to the next older and the next younger of its
+/// manager's.
 #[derive(Clone, Copy, Drop)]
 pub(crate) struct Node {
     pub(crate) actor: Actor,
@@ -19,7 +20,7 @@ pub(crate) struct Node {
     pub(crate) next: Option<usize>,
 }
 
-// The link to the manager, where there is none to a sibling.
+// The link to the manager, with no link to a sibling.
 fn instead(sibling: Option<usize>, manager: Option<usize>) -> Option<usize>
     ensures { result ≡ instead_of sibling manager }
 {
@@ -69,21 +70,21 @@ fn set_next(nodes: &mut Slab<Node>, at: Option<usize>, link: Option<usize>)
     }
 }
 
-/// The link of the node at a key to the youngest of those that it manages.
+/// Returns the link of the node at a key to the youngest of those that it manages.
 pub(crate) fn youngest(nodes: &Slab<Node>, key: usize) -> Option<usize>
     ensures { result ≡ last_link (get nodes.now key) }
 {
     nodes.get(key)?.last
 }
 
-/// The link of the node at a key to the oldest of those that it manages.
+/// Returns the link of the node at a key to the oldest of those that it manages.
 pub(crate) fn oldest(nodes: &Slab<Node>, key: usize) -> Option<usize>
     ensures { result ≡ first_link (get nodes.now key) }
 {
     nodes.get(key)?.first
 }
 
-/// Makes the node at `key` the youngest under `manager`, behind `previous`, the youngest so far.
+/// Makes the node at `key` the youngest under `manager`, after `previous`, the youngest so far.
 pub(crate) fn attach(nodes: &mut Slab<Node>, manager: usize, previous: Option<usize>, key: usize)
     ensures { (k : ℕ) → get nodes.new k ≡ option_map (attached manager previous key k) (get nodes.old k) }
 {
@@ -92,7 +93,7 @@ pub(crate) fn attach(nodes: &mut Slab<Node>, manager: usize, previous: Option<us
     set_last(nodes, Some(manager), Some(key));
 }
 
-/// Takes a node that manages nobody from among its siblings.
+/// Removes a node that manages nobody from among its siblings.
 pub(crate) fn detach(nodes: &mut Slab<Node>, gone: &Node)
     ensures { (k : ℕ) → get nodes.new k ≡ option_map (detached gone.now k) (get nodes.old k) }
 {

@@ -42,7 +42,7 @@ use Rattle.channel_laws.specs.Notes.{Note, RequestNote, asks, request_note, told
 use Rattle.channel_laws.specs.Origins.{IsRequested, Origin, RepliesTo, BodyReplies, PacketReplies, BodyOrigin, PacketOrigin}
 use Rattle.channel_laws.specs.OwnWaits.{IsOwnWait, WaitsOneWay, WaitsAreOwn}
 use Rattle.channel_laws.specs.Promised.{Promised, promised_by, promised_in, promised_entry, promise_reading, PromisesAreRead}
-use Rattle.channel_laws.proofs.Growing.{in-behind}
+use Rattle.channel_laws.proofs.Growing.{in-following}
 use Rattle.channel_laws.proofs.Promising.{promises-known}
 use Rattle.channel_laws.proofs.Settling.{IsOwn, own-entries, pending-unsettled}
 use Rattle.channel_laws.proofs.SettledLines.{awaited-unsettled}
@@ -109,7 +109,7 @@ answers m seq number route is =
       route_is = (Decides-int_eq m.route route).0 (and-right (m.number == number + 1) (int_eq m.route route) rest);
     }
 
--- The innermost wait without an answer
+-- The innermost unanswered wait
 
 unanswered-wait : (f : StackFrame) → is_unanswered f ≡ true → wait_number f ≡ (head_of f).seq ∷ []
 unanswered-wait (Dispatch head) e = cc
@@ -135,7 +135,7 @@ awaited-is (x ∷ es) entry e = by (is_unanswered x.frame) e (awaited-is es entr
     by true e rec = ap (λ (o : Option StackEntry). option_map (λ (y : StackEntry). (head_of y.frame).seq) o) e
     by false e rec = rec e
 
--- What the end refuses not
+-- What the end does not refuse
 
 expected : (b : Bool) (n : ℤ) (later : Option DeliveryRefusal) → (if b then later else Some (stray n)) ≡ None → b ≡ true
 expected true n later accepted = refl
@@ -332,13 +332,13 @@ module _ (schema : Schema) (sound : IsSound schema) (e : End) (own : EndReading)
             (λ x w n number same. true≢false (sym (w n number) ∙ (ap (is_sync_request own) (sym same) ∙ (is ∙ s)))) (wait-sync e.stack waits.waits);
       }
 
--- a packet comes from all that were delivered and itself
+-- a packet has its origin among the delivered packets and itself
 pub accepted-origin : (schema : Schema) (packets : List Packet) (packet : Packet) → FitsPacket schema packet → PacketOrigin schema (notes schema (packets ++ packet ∷ [])) packet
 accepted-origin schema packets mark fits = tt
 accepted-origin schema packets (message m) fits = by m.body refl
   where
     last : In (packet_note schema (message m)) (notes schema (packets ++ message m ∷ []))
-    last = subst (In (packet_note schema (message m))) (sym (map-append (packet_note schema) packets (message m ∷ []))) (in-behind (notes schema packets) here)
+    last = subst (In (packet_note schema (message m))) (sym (map-append (packet_note schema) packets (message m ∷ []))) (in-following (notes schema packets) here)
 
     by : (b : Body) → m.body ≡ b → BodyOrigin schema (notes schema (packets ++ message m ∷ [])) m b
     by (Request vs) is =

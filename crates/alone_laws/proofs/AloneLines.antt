@@ -1,4 +1,4 @@
--- Each line of a step of an end is as the law of one end says.
+-- Each line of a step of an end is as the law of one end requires.
 use Rattle.std.proofs.Common.{◌≡◌, ◌≢◌, ◌⊎◌, inl, inr, ℕ, ◌+◌, ℤ, Bool, true, false, not, ◌&&◌, ◌||◌, cond, if◌then◌else◌, int_eq, find, is_some, IsTrue, List, [], ◌∷◌, ◌++◌, filter_map, length, map, take, Option, Some, None, refl, sym, ap, subst, append_assoc, ◌∙◌, arith}
 use Rattle.std.specs.List.{AllByRecursion, cons_option, slice_get}
 use Rattle.std.specs.Option.{option_map_or}
@@ -29,7 +29,7 @@ use Rattle.history_reading.specs.EndReading.{EndReading, own_request, opening}
 use Rattle.history_reading.specs.Numbers.{has}
 use Rattle.history_reading.specs.Reading.{Reading, after_what, end_reading_of, other_of, opening_reading, read}
 use Rattle.history_reading.specs.SentPacket.{Request, SentPacket, request_of}
-use Rattle.history_reading.specs.Settled.{is_close_event, is_unsettled, is_cause, is_resolved, is_destroyed, says_fallen, resolves_missing, promise_falls_next, settled_line, falls_next}
+use Rattle.history_reading.specs.Settled.{is_close_event, is_unsettled, is_cause, is_resolved, is_destroyed, reports_fallen, resolves_missing, promise_falls_next, settled_line, falls_next}
 use Rattle.channel_laws.specs.Settlings.{SettledPass}
 use Rattle.channel_laws.specs.Tested.{after_whats, read_from}
 use Rattle.channel_laws.proofs.EffectLines.{IsEffectLine, AreEffectLines, built, answers_ok, answers_fault, fails, resolved, rejected, fell}
@@ -42,7 +42,7 @@ use Rattle.law_statements.proofs.SettledLaw.{closes, next}
 use Rattle.alone_laws.specs.Alone.{HasReason}
 use Rattle.alone_laws.specs.AloneLines.{LineIsAlone}
 
--- What is read and said of more lines of one end
+-- What is read of more lines of one end, and what they are
 
 pub reading-more : (schema : Schema) (side : Side) (lines : List Line) (ws : List What) → read schema (lines ++ map (line_at side) ws) ≡ read_from schema (read schema lines) (map (line_at side) ws)
 reading-more schema side lines ws = read-append schema lines (map (line_at side) ws) opening_reading
@@ -62,7 +62,7 @@ said-more side lines ws = filter_map-append (said_in side) lines (map (line_at s
 
 -- Lines one after another
 
--- lines of an end are as the law says, whatever stands behind them
+-- lines of an end are as the law requires, whatever follows them
 abbrev pub LinesAreAlone : Schema → ℕ → Side → List Packet → List Line → List What → Type 0
 LinesAreAlone schema top side packets before [] = Unit {0}
 LinesAreAlone schema top side packets before (w ∷ ws) =
@@ -76,7 +76,7 @@ alone-append schema top side packets before (w ∷ ws) vs a b = (
   alone-append schema top side packets (before ++ line_at side w ∷ []) ws vs a.1 (subst (λ (ls : List Line). LinesAreAlone schema top side packets ls vs) (sym (append_assoc before (line_at side w ∷ []) (map (line_at side) ws))) b),
 )
 
--- a line of which the law says nothing
+-- a line for which the law has no condition
 abbrev pub IsSilent : What → Type 0
 IsSilent (what.Resolved n vs) = ⊥
 IsSilent (what.Rejected n why) = ⊥
@@ -84,12 +84,12 @@ IsSilent (what.ResumeOk n vs) = ⊥
 IsSilent (what.ResumeFault n why) = ⊥
 IsSilent _ = Unit {0}
 
-silent-line : (schema : Schema) (top : ℕ) (side : Side) (packets : List Packet) (before : List Line) (w : What) (behind : List Line) → IsSilent w → LineIsAlone schema top side packets before w behind
-silent-line schema top side packets before (what.Resolved n vs) behind is = absurd is
-silent-line schema top side packets before (what.Rejected n why) behind is = absurd is
-silent-line schema top side packets before (what.ResumeOk n vs) behind is = absurd is
-silent-line schema top side packets before (what.ResumeFault n why) behind is = absurd is
-silent-line schema top side packets before _ behind is = tt
+silent-line : (schema : Schema) (top : ℕ) (side : Side) (packets : List Packet) (before : List Line) (w : What) (following : List Line) → IsSilent w → LineIsAlone schema top side packets before w following
+silent-line schema top side packets before (what.Resolved n vs) following is = absurd is
+silent-line schema top side packets before (what.Rejected n why) following is = absurd is
+silent-line schema top side packets before (what.ResumeOk n vs) following is = absurd is
+silent-line schema top side packets before (what.ResumeFault n why) following is = absurd is
+silent-line schema top side packets before _ following is = tt
 
 pub silent-lines : (schema : Schema) (top : ℕ) (side : Side) (packets : List Packet) (before : List Line) (ws : List What) → AllByRecursion IsSilent ws → LinesAreAlone schema top side packets before ws
 silent-lines schema top side packets before [] h = tt
@@ -108,32 +108,32 @@ pending-is schema side before own n is unsettled =
 
 -- Lines of falls and closings
 
-falls-route : (side : Side) (own : EndReading) (n : ℤ) (behind : List Line) (r : Request) → own_request own n ≡ Some r → promise_falls_next side own n behind ≡ true → FallsNext side r.route behind
+falls-route : (side : Side) (own : EndReading) (n : ℤ) (following : List Line) (r : Request) → own_request own n ≡ Some r → promise_falls_next side own n following ≡ true → FallsNext side r.route following
 unfolding promise_falls_next
-falls-route side own n behind r found is = (next side r.route behind).0 (sym (ap (λ (o : Option Request). option_map_or (λ (x : Request). falls_next side x.route behind) o false) found) ∙ is)
+falls-route side own n following r found is = (next side r.route following).0 (sym (ap (λ (o : Option Request). option_map_or (λ (x : Request). falls_next side x.route following) o false) found) ∙ is)
 
--- nothing was said by an end of which nothing is read
-none-destroyed : (schema : Schema) (side : Side) (own : EndReading) (n : ℤ) (behind : List Line) → is_destroyed schema side own opening n behind ≡ true → promise_falls_next side own n behind ≡ true
-unfolding is_destroyed says_fallen resolves_missing
-none-destroyed schema side own n behind is = is
+-- an end of which nothing is read has sent nothing
+none-destroyed : (schema : Schema) (side : Side) (own : EndReading) (n : ℤ) (following : List Line) → is_destroyed schema side own opening n following ≡ true → promise_falls_next side own n following ≡ true
+unfolding is_destroyed reports_fallen resolves_missing
+none-destroyed schema side own n following is = is
 
 module _ (schema : Schema) (top : ℕ) (side : Side) (packets : List Packet) where
-  rejected-line : (before : List Line) (own : EndReading) (n : ℤ) (why : Reason) (behind : List Line) → own ≡ end_reading_of side (read schema before) → settled_line schema side own opening (what.Rejected n why) behind ≡ true → LineIsAlone schema top side packets before (what.Rejected n why) behind
-  rejected-line before own n why behind is passes =
-      let p = pending-is schema side before own n is (and-left (is_unsettled own n) (is_cause schema side own opening n behind why) passes) in
-      (p.0, p.1, by why (and-right (is_unsettled own n) (is_cause schema side own opening n behind why) passes) p.0 p.1)
+  rejected-line : (before : List Line) (own : EndReading) (n : ℤ) (why : Reason) (following : List Line) → own ≡ end_reading_of side (read schema before) → settled_line schema side own opening (what.Rejected n why) following ≡ true → LineIsAlone schema top side packets before (what.Rejected n why) following
+  rejected-line before own n why following is passes =
+      let p = pending-is schema side before own n is (and-left (is_unsettled own n) (is_cause schema side own opening n following why) passes) in
+      (p.0, p.1, by why (and-right (is_unsettled own n) (is_cause schema side own opening n following why) passes) p.0 p.1)
     where
-      by : (why : Reason) → is_cause schema side own opening n behind why ≡ true → (r : Request) → IsPending schema (said_by side before) n r → HasReason schema top side before behind packets r why
+      by : (why : Reason) → is_cause schema side own opening n following why ≡ true → (r : Request) → IsPending schema (said_by side before) n r → HasReason schema top side before following packets r why
       by reason.HandlerRejected c r p = cc
       by reason.ResolverDestroyed c r p = cc
       by reason.ChannelClosed c r p = sym (closes (last_event (said_by side before))) ∙ (ap is_close_event (sym (ap (λ (x : EndReading). x.event) is ∙ event-read schema side before)) ∙ c)
       by reason.ActorDestroyed c r p =
-          inr (falls-route side own n behind r (ap (λ (ps : List SentPacket). request_of ps n) (ap (λ (x : EndReading). x.sent) is ∙ sent-read schema side before) ∙ p.0) (none-destroyed schema side own n behind c))
+          inr (falls-route side own n following r (ap (λ (ps : List SentPacket). request_of ps n) (ap (λ (x : EndReading). x.sent) is ∙ sent-read schema side before) ∙ p.0) (none-destroyed schema side own n following c))
 
-  resolved-line : {A : Type 0} (own : EndReading) (n : ℤ) (vs : Values) (behind : List Line) → settled_line schema side own opening (what.Resolved n vs) behind ≡ true → A
-  resolved-line own n vs behind passes = let z : false ≡ true = and-right (is_unsettled own n) (is_resolved schema own opening n vs) passes in cc
+  resolved-line : {A : Type 0} (own : EndReading) (n : ℤ) (vs : Values) (following : List Line) → settled_line schema side own opening (what.Resolved n vs) following ≡ true → A
+  resolved-line own n vs following passes = let z : false ≡ true = and-right (is_unsettled own n) (is_resolved schema own opening n vs) passes in cc
 
-  -- effects that pass the law of settlings of an end to which nothing was said
+  -- effects that pass the law of settlings at an end to which nothing was sent
   pub effects-alone : (before : List Line) (place : ℕ) (own : EndReading) (ws : List What) → place ≡ (read schema before).lines → own ≡ end_reading_of side (read schema before) → AreEffectLines ws → SettledPass schema side opening place ws own → LinesAreAlone schema top side packets before ws
   effects-alone before place own [] at is effects passes = tt
   effects-alone before place own (w ∷ ws) at is effects passes = (
@@ -151,11 +151,11 @@ module _ (schema : Schema) (top : ℕ) (side : Side) (packets : List Packet) whe
           one-line Parent w r = refl
           one-line Child w r = refl
 
-      by : (w : What) → IsEffectLine w → (behind : List Line) → settled_line schema side own opening w behind ≡ true → LineIsAlone schema top side packets before w behind
-      by w (built id protocol) behind p = tt
-      by w (answers_ok n vs) behind p = tt
-      by w (answers_fault n why) behind p = tt
-      by w (fails n) behind p = tt
-      by w (resolved n vs) behind p = resolved-line own n vs behind p
-      by w (rejected n why) behind p = rejected-line before own n why behind is p
-      by w (fell id why) behind p = tt
+      by : (w : What) → IsEffectLine w → (following : List Line) → settled_line schema side own opening w following ≡ true → LineIsAlone schema top side packets before w following
+      by w (built id protocol) following p = tt
+      by w (answers_ok n vs) following p = tt
+      by w (answers_fault n why) following p = tt
+      by w (fails n) following p = tt
+      by w (resolved n vs) following p = resolved-line own n vs following p
+      by w (rejected n why) following p = rejected-line before own n why following is p
+      by w (fell id why) following p = tt

@@ -1,4 +1,4 @@
--- The lines of each part of a step of an end are as the law of one end says.
+-- The lines of each part of a step of an end are as the law of one end requires.
 use Rattle.std.proofs.Common.{◌≡◌, ◌≢◌, ◌⊎◌, inl, inr, ℕ, ◌+◌, ℤ, Bool, true, false, not, ◌&&◌, cond, if◌then◌else◌, int_eq, find, is_some, IsTrue, List, [], ◌∷◌, ◌++◌, filter_map, length, map, take, Option, Some, None, refl, sym, ap, subst, append_assoc, ◌∙◌, arith}
 use Rattle.std.specs.List.{AllByRecursion, cons_option, slice_get}
 use Rattle.std.specs.Option.{option_map_or}
@@ -103,7 +103,7 @@ all-delivered schema side before packets is =
     let count : length (delivered (said_by side before)) ≡ length packets = ap length (sym (delivered-read schema side before) ∙ is) ∙ length-map packets delivered_kind in
     ap (λ (n : ℕ). take n packets) count ∙ take_all (length packets) packets (omega arith)
 
--- no packet that fits says that the channel has closed
+-- no packet that fits gives the reason that the channel has closed
 no-closed : (schema : Schema) (n : ℤ) (packets : List Packet) → AllByRecursion (FitsPacket schema) packets → slice_get (answers_to n packets) 0 ≡ Some (answer.Fault ChannelClosed) → ⊥
 no-closed schema n [] fits e = cc
 no-closed schema n (mark ∷ packets) fits e = no-closed schema n packets fits.1 e
@@ -116,7 +116,7 @@ no-closed schema n (message m ∷ packets) fits e = by (int_eq m.seq n) m.body f
     by true (bodies.Fault why) f e rest = let same : why ≡ ChannelClosed = cc in subst (λ (w : Reason). IsFaultOf f.0.semantics w) same f.2
     by true bodies.Goodbye f e rest = rest e
 
--- items before the reply that is taken answer nothing to it
+-- items before the reply that is taken do not answer its request
 front-none : (n : ℤ) (x : Item) (items : List Item) → item_kind x ≡ seen.Reply n → ShowOthers x items → answers_in n items ≡ []
 front-none n x [] shows others = refl
 front-none n x (y ∷ items) shows others = ap (λ (o : Option Answer). cons_option o (answers_in n items)) (by y others.0) ∙ front-none n x items shows others.1
@@ -194,14 +194,14 @@ module _ (schema : Schema) (rows : HasSoundRows schema) (top : ℕ) (side : Side
   abbrev said : List What
   said = said_by side before
 
-  -- lines of which nothing is said
+  -- lines for which the law has no condition
   silent : (ws : List What) → AllByRecursion IsSilent ws → LinesAreAlone schema top side packets before ws
   silent ws h = silent-lines schema top side packets before ws h
 
   -- a reply that settles its promise
 
   module _ (e : End) (k : KeepsAlone schema top side e before packets) (m : Message) (sync : Bool) (level : Level) (row : MessageRow) (a : Answer) (next : take.taken_next e ≡ Some (item.Message m sync level)) (body : m.body ≡ body_of a) (found : message_of schema m.number ≡ Some row) (awaited : take.is_awaited m.seq e.promises ≡ true) where
-    -- the lines and the reading behind the line of the take
+    -- the lines and the reading after the line of the take
     abbrev taken : List Line
     taken = before ++ line_at side (what.TakeReply m.seq) ∷ []
 
@@ -271,11 +271,11 @@ module _ (schema : Schema) (rows : HasSoundRows schema) (top : ℕ) (side : Side
         request-seq r is = (Decides-int_eq r.seq m.seq).0 (found-passes (λ (x : told.Request). int_eq x.seq m.seq) (told.requests_of (sent schema (said_by side taken))) r is)
 
     -- a rejection has its cause
-    reason-taken : (r : told.Request) → IsPending schema (said_by side taken) m.seq r → (why : Reason) (behind : List Line) → received schema e.actors row a ≡ answer.Fault why → HasReason schema top side taken behind packets r why
-    reason-taken r p HandlerRejected behind is = subst (HasReceived schema top (said_by side taken) packets r.seq r.number) is (received-request r p)
-    reason-taken r p ResolverDestroyed behind is = subst (HasReceived schema top (said_by side taken) packets r.seq r.number) is (received-request r p)
-    reason-taken r p ActorDestroyed behind is = inl (subst (HasReceived schema top (said_by side taken) packets r.seq r.number) is (received-request r p))
-    reason-taken r p ChannelClosed behind is = absurd (no-closed schema m.seq packets k.read_is.fits (first-given ∙ ap (λ (x : Answer). Some x) (closed-fault a is)))
+    reason-taken : (r : told.Request) → IsPending schema (said_by side taken) m.seq r → (why : Reason) (following : List Line) → received schema e.actors row a ≡ answer.Fault why → HasReason schema top side taken following packets r why
+    reason-taken r p HandlerRejected following is = subst (HasReceived schema top (said_by side taken) packets r.seq r.number) is (received-request r p)
+    reason-taken r p ResolverDestroyed following is = subst (HasReceived schema top (said_by side taken) packets r.seq r.number) is (received-request r p)
+    reason-taken r p ActorDestroyed following is = inl (subst (HasReceived schema top (said_by side taken) packets r.seq r.number) is (received-request r p))
+    reason-taken r p ChannelClosed following is = absurd (no-closed schema m.seq packets k.read_is.fits (first-given ∙ ap (λ (x : Answer). Some x) (closed-fault a is)))
       where
         closed-fault : (a : Answer) → received schema e.actors row a ≡ answer.Fault ChannelClosed → a ≡ answer.Fault ChannelClosed
         closed-fault (answer.Fault why) is = is
@@ -292,7 +292,7 @@ module _ (schema : Schema) (rows : HasSoundRows schema) (top : ℕ) (side : Side
         by (answer.Ok vs) is more = (pending-taken.0, pending-taken.1, subst (HasReceived schema top (said_by side taken) packets pending-taken.0.seq pending-taken.0.number) is (received-request pending-taken.0 pending-taken.1))
         by (answer.Fault why) is more = (pending-taken.0, pending-taken.1, reason-taken pending-taken.0 pending-taken.1 why more is)
 
-  -- a call that goes on
+  -- a call that continues
 
   module _ (e : End) (k : KeepsAlone schema top side e before packets) (wait : return.AnsweredWait) (row : MessageRow) (on_top : return.answered_wait_on_top e.stack ≡ Some wait) (found : request_row schema wait.number ≡ Some row) where
     -- What is known of the wait: its request, and its answer.
@@ -338,11 +338,11 @@ module _ (schema : Schema) (rows : HasSoundRows schema) (top : ℕ) (side : Side
       is = ap (λ (xs : _). received schema xs row wait.given) living-now;
     }
 
-    goes-on : (w : WaitIsKnown) → (slice_get (answers_to wait.seq packets) 0 ≡ Some wait.given) ⊎ ((wait.given ≡ answer.Fault ChannelClosed) × (has own.failed wait.seq ≡ true)) → (x : Answer) → received schema e.actors row wait.given ≡ x → (behind : List Line) → LineIsAlone schema top side packets before (return.resume_line wait.seq x) behind
-    goes-on w (inl first) (answer.Ok vs) is behind = (w.request, asked-now w, subst (HasReceived schema top said packets wait.seq w.request.number) is (received-now w first))
-    goes-on w (inl first) (answer.Fault why) is behind = inl (w.request, asked-now w, subst (HasReceived schema top said packets wait.seq w.request.number) is (received-now w first))
-    goes-on w (inr lost) (answer.Ok vs) is behind = let z : answer.Fault ChannelClosed ≡ answer.Ok vs = sym (ap (received schema e.actors row) lost.0) ∙ is in cc
-    goes-on w (inr lost) (answer.Fault why) is behind =
+    goes-on : (w : WaitIsKnown) → (slice_get (answers_to wait.seq packets) 0 ≡ Some wait.given) ⊎ ((wait.given ≡ answer.Fault ChannelClosed) × (has own.failed wait.seq ≡ true)) → (x : Answer) → received schema e.actors row wait.given ≡ x → (following : List Line) → LineIsAlone schema top side packets before (return.resume_line wait.seq x) following
+    goes-on w (inl first) (answer.Ok vs) is following = (w.request, asked-now w, subst (HasReceived schema top said packets wait.seq w.request.number) is (received-now w first))
+    goes-on w (inl first) (answer.Fault why) is following = inl (w.request, asked-now w, subst (HasReceived schema top said packets wait.seq w.request.number) is (received-now w first))
+    goes-on w (inr lost) (answer.Ok vs) is following = let z : answer.Fault ChannelClosed ≡ answer.Ok vs = sym (ap (received schema e.actors row) lost.0) ∙ is in cc
+    goes-on w (inr lost) (answer.Fault why) is following =
         let z : answer.Fault ChannelClosed ≡ answer.Fault why = sym (ap (received schema e.actors row) lost.0) ∙ is in
         let same : ChannelClosed ≡ why = cc in
         inr (sym same, ap (λ (ns : List ℤ). has ns wait.seq) (sym (failed-read schema side before)) ∙ lost.1)
@@ -383,7 +383,7 @@ module _ (schema : Schema) (rows : HasSoundRows schema) (top : ℕ) (side : Side
   delivery-alone {e = e} (parts.drains packet is) = silent (parts.farewell_line packet ∷ map what.Fails (delivery.unanswered e)) (farewell-silent packet, fails-silent (delivery.unanswered e))
   delivery-alone (parts.passes_by m ordinary none) = silent (parts.unknown_line m.seq m.body ∷ []) (unknown-silent m.seq m.body, tt)
 
--- Later parts pass the law of settlings, whatever the other end has said
+-- Later parts pass the law of settlings, whatever the other end has sent
 
 pass-both : (schema : Schema) (side : Side) (place : ℕ) (ws vs : List What) (told : EndReading) → SettledPass schema side opening place ws told → ((at : ℕ) → SettledPass schema side opening at vs (after_whats schema place ws told)) → SettledPass schema side opening place (ws ++ vs) told
 pass-both schema side place [] vs told a b = b place
@@ -392,7 +392,7 @@ pass-both schema side place (w ∷ ws) vs told a b = (
   pass-both schema side (place + 1) ws vs (after_what schema place w told) a.1 b,
 )
 
--- a closing that is due behind a later part was due before, and its effects leave the event
+-- a closing that is due after a later part was due before, and its effects leave the event unchanged
 event-left : (schema : Schema) (place : ℕ) (w : What) (told : EndReading) → IsEffectLine w → (after_what schema place w told).event ≡ told.event
 event-left schema place w told (built id protocol) = refl
 event-left schema place w told (answers_ok n vs) = refl
@@ -426,8 +426,8 @@ module _ (schema : Schema) (rows : HasSoundRows schema) (top : ℕ) (side : Side
   own-alone k (parts.begun {ws = ws} {vs = vs} part rest ended) =
       let place : ℕ = (read schema before).lines in
       let own : EndReading = end_reading_of side (read schema before) in
-      let behind : List Line = before ++ map (line_at side) ws in
+      let following : List Line = before ++ map (line_at side) ws in
       alone-append schema top side packets before ws vs (first-alone schema rows top side packets before k part)
-      (effects-alone schema top side packets behind (read schema behind).lines (end_reading_of side (read schema behind)) vs refl refl (laters-effects rest)
-      (subst (SettledPass schema side opening (read schema behind).lines vs) (sym (own-more schema side before ws))
-      (laters-pass schema side (read schema behind).lines (after_whats schema place ws own) rest (first-kept schema rows place own part k.read_is.actors).kept (first-closes schema side opening place own part) (first-keeps-promises schema place own part k.read_is.exchanges.promises))))
+      (effects-alone schema top side packets following (read schema following).lines (end_reading_of side (read schema following)) vs refl refl (laters-effects rest)
+      (subst (SettledPass schema side opening (read schema following).lines vs) (sym (own-more schema side before ws))
+      (laters-pass schema side (read schema following).lines (after_whats schema place ws own) rest (first-kept schema rows place own part k.read_is.actors).kept (first-closes schema side opening place own part) (first-keeps-promises schema place own part k.read_is.exchanges.promises))))

@@ -16,6 +16,7 @@ use Rattle.ipdl_base.specs.declared.line.What.TheVariants as what
 use Rattle.ipdl_base.specs.declared.schema.Schema.{Schema}
 use Rattle.ipdl_base.specs.Lines.{is_effect}
 use Rattle.ipdl_base.specs.Sound.{IsSound}
+use Rattle.ipdl_base.specs.Sides.{top_id}
 use Rattle.nesting_core.specs.declared.frame.Answer.{Answer}
 use Rattle.nesting_core.specs.declared.frame.Answer.TheVariants as answer
 use Rattle.channel_model.specs.EventLines.{EffectsFollow, IsEffectOf, IsEventWithEffects}
@@ -69,27 +70,27 @@ use Rattle.alone_laws.proofs.AloneSteps.{delivery-keeps-alone, own-keeps-alone, 
 
 -- Places in lists
 
--- A place in two lists is one in the first or one in the second.
-data PlaceIn (xs ys before : List Line) (l : Line) (behind : List Line) : Type 0 where
-  in_first : (rest : List Line) → xs ≡ before ++ l ∷ rest → behind ≡ rest ++ ys → PlaceIn xs ys before l behind
-  in_second : (front : List Line) → before ≡ xs ++ front → ys ≡ front ++ l ∷ behind → PlaceIn xs ys before l behind
+-- A place in two lists is in the first or in the second.
+data PlaceIn (xs ys before : List Line) (l : Line) (following : List Line) : Type 0 where
+  in_first : (rest : List Line) → xs ≡ before ++ l ∷ rest → following ≡ rest ++ ys → PlaceIn xs ys before l following
+  in_second : (front : List Line) → before ≡ xs ++ front → ys ≡ front ++ l ∷ following → PlaceIn xs ys before l following
 
-place-in : (xs ys before : List Line) (l : Line) (behind : List Line) → xs ++ ys ≡ before ++ l ∷ behind → PlaceIn xs ys before l behind
-place-in [] ys before l behind e = in_second before refl e
-place-in (x ∷ xs) ys [] l behind e =
+place-in : (xs ys before : List Line) (l : Line) (following : List Line) → xs ++ ys ≡ before ++ l ∷ following → PlaceIn xs ys before l following
+place-in [] ys before l following e = in_second before refl e
+place-in (x ∷ xs) ys [] l following e =
     let first : x ≡ l = cc in
-    let rest : xs ++ ys ≡ behind = cc in
+    let rest : xs ++ ys ≡ following = cc in
     in_first xs (ap (λ (y : Line). y ∷ xs) first) (sym rest)
-place-in (x ∷ xs) ys (b ∷ before) l behind e =
+place-in (x ∷ xs) ys (b ∷ before) l following e =
     let first : x ≡ b = cc in
-    let rest : xs ++ ys ≡ before ++ l ∷ behind = cc in
-    by first (place-in xs ys before l behind rest)
+    let rest : xs ++ ys ≡ before ++ l ∷ following = cc in
+    by first (place-in xs ys before l following rest)
   where
-    by : x ≡ b → PlaceIn xs ys before l behind → PlaceIn (x ∷ xs) ys (b ∷ before) l behind
+    by : x ≡ b → PlaceIn xs ys before l following → PlaceIn (x ∷ xs) ys (b ∷ before) l following
     by first (in_first rest is same) = in_first rest (ap (λ (zs : List Line). x ∷ zs) is ∙ ap (λ (y : Line). y ∷ before ++ l ∷ rest) first) same
     by first (in_second front is same) = in_second front (ap (λ (zs : List Line). b ∷ zs) is ∙ ap (λ (y : Line). y ∷ xs ++ front) (sym first)) same
 
--- More packets and more lines behind
+-- More packets and more lines after
 
 received-more : (schema : Schema) (top : ℕ) (own : List What) (packets more : List Packet) (n : ℤ) (number : ℕ) (a : Answer) → length (delivered own) ≤ length packets → HasReceived schema top own packets n number a → HasReceived schema top own (packets ++ more) n number a
 received-more schema top own packets more n number a few h = record {
@@ -100,59 +101,59 @@ received-more schema top own packets more n number a few h = record {
   is = h.is;
 }
 
-falls-more : (side : Side) (route : ℤ) (behind more : List Line) → FallsNext side route behind → FallsNext side route (behind ++ more)
-falls-more side route behind more f =
+falls-more : (side : Side) (route : ℤ) (following more : List Line) → FallsNext side route following → FallsNext side route (following ++ more)
+falls-more side route following more f =
     (f.0, f.1, f.2 ++ more, ap (λ (ls : List Line). ls ++ more) f.3 ∙ append_assoc f.0 (line_of side (what.Fall route f.1) ∷ f.2) more, f.4)
 
-line-more : (schema : Schema) (top : ℕ) (side : Side) (packets more : List Packet) (before : List Line) (w : What) (behind later : List Line) → length (delivered (said_by side before)) ≤ length packets → LineIsAlone schema top side packets before w behind → LineIsAlone schema top side (packets ++ more) before w (behind ++ later)
-line-more schema top side packets more before (what.Resolved n vs) behind later few h = (h.0, h.1, received-more schema top (said_by side before) packets more h.0.seq h.0.number (answer.Ok vs) few h.2)
-line-more schema top side packets more before (what.Rejected n why) behind later few h = (h.0, h.1, by why h.2)
+line-more : (schema : Schema) (top : ℕ) (side : Side) (packets more : List Packet) (before : List Line) (w : What) (following later : List Line) → length (delivered (said_by side before)) ≤ length packets → LineIsAlone schema top side packets before w following → LineIsAlone schema top side (packets ++ more) before w (following ++ later)
+line-more schema top side packets more before (what.Resolved n vs) following later few h = (h.0, h.1, received-more schema top (said_by side before) packets more h.0.seq h.0.number (answer.Ok vs) few h.2)
+line-more schema top side packets more before (what.Rejected n why) following later few h = (h.0, h.1, by why h.2)
   where
-    by : (why : Reason) → HasReason schema top side before behind packets h.0 why → HasReason schema top side before (behind ++ later) (packets ++ more) h.0 why
+    by : (why : Reason) → HasReason schema top side before following packets h.0 why → HasReason schema top side before (following ++ later) (packets ++ more) h.0 why
     by reason.HandlerRejected c = received-more schema top (said_by side before) packets more h.0.seq h.0.number (answer.Fault reason.HandlerRejected) few c
     by reason.ResolverDestroyed c = received-more schema top (said_by side before) packets more h.0.seq h.0.number (answer.Fault reason.ResolverDestroyed) few c
     by reason.ActorDestroyed (inl c) = inl (received-more schema top (said_by side before) packets more h.0.seq h.0.number (answer.Fault reason.ActorDestroyed) few c)
-    by reason.ActorDestroyed (inr c) = inr (falls-more side h.0.route behind later c)
+    by reason.ActorDestroyed (inr c) = inr (falls-more side h.0.route following later c)
     by reason.ChannelClosed c = c
-line-more schema top side packets more before (what.ResumeOk n vs) behind later few h = (h.0, h.1, received-more schema top (said_by side before) packets more n h.0.number (answer.Ok vs) few h.2)
-line-more schema top side packets more before (what.ResumeFault n why) behind later few (inl h) = inl (h.0, h.1, received-more schema top (said_by side before) packets more n h.0.number (answer.Fault why) few h.2)
-line-more schema top side packets more before (what.ResumeFault n why) behind later few (inr h) = inr h
-line-more schema top side packets more before _ behind later few h = tt
+line-more schema top side packets more before (what.ResumeOk n vs) following later few h = (h.0, h.1, received-more schema top (said_by side before) packets more n h.0.number (answer.Ok vs) few h.2)
+line-more schema top side packets more before (what.ResumeFault n why) following later few (inl h) = inl (h.0, h.1, received-more schema top (said_by side before) packets more n h.0.number (answer.Fault why) few h.2)
+line-more schema top side packets more before (what.ResumeFault n why) following later few (inr h) = inr h
+line-more schema top side packets more before _ following later few h = tt
 
 -- a place in new lines
-line-new : (schema : Schema) (top : ℕ) (side : Side) (packets : List Packet) (lines : List Line) (ws : List What) (front : List Line) (w : What) (behind : List Line) → LinesAreAlone schema top side packets lines ws → map (line_at side) ws ≡ front ++ line_at side w ∷ behind
-    → LineIsAlone schema top side packets (lines ++ front) w behind
-line-new schema top side packets lines [] [] w behind h e = cc
-line-new schema top side packets lines [] (f ∷ front) w behind h e = cc
-line-new schema top side packets lines (x ∷ ws) [] w behind h e =
+line-new : (schema : Schema) (top : ℕ) (side : Side) (packets : List Packet) (lines : List Line) (ws : List What) (front : List Line) (w : What) (following : List Line) → LinesAreAlone schema top side packets lines ws → map (line_at side) ws ≡ front ++ line_at side w ∷ following
+    → LineIsAlone schema top side packets (lines ++ front) w following
+line-new schema top side packets lines [] [] w following h e = cc
+line-new schema top side packets lines [] (f ∷ front) w following h e = cc
+line-new schema top side packets lines (x ∷ ws) [] w following h e =
     let first : line_at side x ≡ line_at side w = cc in
-    let rest : map (line_at side) ws ≡ behind = cc in
-    subst (λ (ls : List Line). LineIsAlone schema top side packets ls w behind) (sym (append-nil lines))
-    (subst (λ (v : What). LineIsAlone schema top side packets lines v behind) (ap (λ (l : Line). l.what) first) (subst (LineIsAlone schema top side packets lines x) (append-nil (map (line_at side) ws) ∙ rest) (h.0 [])))
-line-new schema top side packets lines (x ∷ ws) (f ∷ front) w behind h e =
+    let rest : map (line_at side) ws ≡ following = cc in
+    subst (λ (ls : List Line). LineIsAlone schema top side packets ls w following) (sym (append-nil lines))
+    (subst (λ (v : What). LineIsAlone schema top side packets lines v following) (ap (λ (l : Line). l.what) first) (subst (LineIsAlone schema top side packets lines x) (append-nil (map (line_at side) ws) ∙ rest) (h.0 [])))
+line-new schema top side packets lines (x ∷ ws) (f ∷ front) w following h e =
     let first : line_at side x ≡ f = cc in
-    let rest : map (line_at side) ws ≡ front ++ line_at side w ∷ behind = cc in
-    subst (λ (ls : List Line). LineIsAlone schema top side packets ls w behind) (append_assoc lines (line_at side x ∷ []) front ∙ ap (λ (l : Line). lines ++ l ∷ front) first)
-    (line-new schema top side packets (lines ++ line_at side x ∷ []) ws front w behind h.1 rest)
+    let rest : map (line_at side) ws ≡ front ++ line_at side w ∷ following = cc in
+    subst (λ (ls : List Line). LineIsAlone schema top side packets ls w following) (append_assoc lines (line_at side x ∷ []) front ∙ ap (λ (l : Line). lines ++ l ∷ front) first)
+    (line-new schema top side packets (lines ++ line_at side x ∷ []) ws front w following h.1 rest)
 
--- Effects behind events
+-- Effects after events
 
-effect-behind : (b : Bool) (before : Option Side) (side : Side) → b ≡ true → before ≡ Some side → MatchBool b (before ≡ Some side) (Unit {0})
-effect-behind true before side h is = is
-effect-behind false before side h is = cc
+effect-following : (b : Bool) (before : Option Side) (side : Side) → b ≡ true → before ≡ Some side → MatchBool b (before ≡ Some side) (Unit {0})
+effect-following true before side h is = is
+effect-following false before side h is = cc
 
 event-first : (b : Bool) (P : Type 0) → b ≡ false → MatchBool b P (Unit {0})
 event-first true P h = cc
 event-first false P h = tt
 
-effects-behind : (side : Side) (xs : List Line) → AllByRecursion (IsEffectOf side) xs → EffectsFollow (Some side) xs
-effects-behind side [] h = tt
-effects-behind side (x ∷ xs) h =
-    (effect-behind (is_effect x.what) (Some side) x.side h.0.1 (ap (λ (s : Side). Some s) (sym h.0.0)), subst (λ (s : Side). EffectsFollow (Some s) xs) (sym h.0.0) (effects-behind side xs h.1))
+effects-following : (side : Side) (xs : List Line) → AllByRecursion (IsEffectOf side) xs → EffectsFollow (Some side) xs
+effects-following side [] h = tt
+effects-following side (x ∷ xs) h =
+    (effect-following (is_effect x.what) (Some side) x.side h.0.1 (ap (λ (s : Side). Some s) (sym h.0.0)), subst (λ (s : Side). EffectsFollow (Some s) xs) (sym h.0.0) (effects-following side xs h.1))
 
 event-lines : (before : Option Side) (side : Side) (xs : List Line) → IsEventWithEffects side xs → EffectsFollow before xs
 event-lines before side [] h = absurd h
-event-lines before side (x ∷ xs) h = (event-first (is_effect x.what) (before ≡ Some x.side) h.0.1, subst (λ (s : Side). EffectsFollow (Some s) xs) (sym h.0.0) (effects-behind side xs h.1))
+event-lines before side (x ∷ xs) h = (event-first (is_effect x.what) (before ≡ Some x.side) h.0.1, subst (λ (s : Side). EffectsFollow (Some s) xs) (sym h.0.0) (effects-following side xs h.1))
 
 -- Runs
 
@@ -196,42 +197,42 @@ module _ (schema : Schema) (sound : IsSound schema) (top : ℕ) (side : Side) wh
   settled-at : (e : End) (lines : List Line) (packets : List Packet) → Kept e lines packets → settled_moment (end_reading_of side (read schema lines)) ≡ true
   settled-at e lines packets k = moment-settled schema e (end_reading_of side (read schema lines)) k.read_is.exchanges.promises k.read_is.over
 
-  -- a world with this end at the side, for what is said of moves
+  -- a world with this end at the side, for properties of moves
   abbrev world_with : End → List Packet → World
   world_with e link = record { parent = e; child = e; to_parent = link; to_child = link }
 
-  moments : (moment : Reading → Bool) (e : End) (link : List Packet) (ev : Event) (output : Output) (r : Reading) (behind : List Line) → step schema e link ev ≡ Some output → moment r ≡ true → LinesPass schema (moment_at moment) r output.lines behind
-  moments moment e link ev output r behind is h = by side
+  moments : (moment : Reading → Bool) (e : End) (link : List Packet) (ev : Event) (output : Output) (r : Reading) (following : List Line) → step schema e link ev ≡ Some output → moment r ≡ true → LinesPass schema (moment_at moment) r output.lines following
+  moments moment e link ev output r following is h = by side
     where
-      by : (s : Side) → LinesPass schema (moment_at moment) r output.lines behind
-      by Parent = moments-pass schema moment (record { side = Parent; event = ev }) (world_with e link) r output behind is h
-      by Child = moments-pass schema moment (record { side = Child; event = ev }) (world_with e link) r output behind is h
+      by : (s : Side) → LinesPass schema (moment_at moment) r output.lines following
+      by Parent = moments-pass schema moment (record { side = Parent; event = ev }) (world_with e link) r output following is h
+      by Child = moments-pass schema moment (record { side = Child; event = ev }) (world_with e link) r output following is h
 
   -- What a step adds.
   record StepAdds (lines : List Line) (given : List Packet) (output : Output) : Type 0 where
     whats : List What
     is : output.lines ≡ map (line_at side) whats
     kept : Kept output.end (lines ++ output.lines) given
-    passes : (behind : List Line) → LinesPass schema alone_test (read schema lines) output.lines behind
+    passes : (following : List Line) → LinesPass schema alone_test (read schema lines) output.lines following
     alone : LinesAreAlone schema top side given lines whats
 
   step-passes : (e : End) (lines : List Line) (packets : List Packet) (link : List Packet) (ev shown : Event) (output : Output) (ws : List What) (ps : List Packet) (q : Phase) → Kept e lines packets → step schema e link ev ≡ Some output → StepParts schema e link shown ws ps output.end q → output.lines ≡ map (line_at side) ws
-      → EndLinesPass schema IsFallenLine (read schema lines).lines ws (end_reading_of side (read schema lines)) → (behind : List Line) → LinesPass schema alone_test (read schema lines) output.lines behind
-  step-passes e lines packets link ev shown output ws ps q k is part said fallen behind =
+      → EndLinesPass schema IsFallenLine (read schema lines).lines ws (end_reading_of side (read schema lines)) → (following : List Line) → LinesPass schema alone_test (read schema lines) output.lines following
+  step-passes e lines packets link ev shown output ws ps q k is part said fallen following =
       let r : Reading = read schema lines in
-      let readable : LinesPass schema reads_test r output.lines behind =
-      pass-both schema event_test (test_at (λ own other said. is_readable_what schema own.stack said)) r output.lines behind
-      (pass-events schema r output.lines behind (event-lines r.last e.side output.lines (events_have_their_lines schema e link ev output is).lines))
-      (subst (λ (ls : List Line). LinesPass schema (test_at (λ own other said. is_readable_what schema own.stack said)) r ls behind) (sym said)
-      (pass-lines schema (λ own other said. is_readable_what schema own.stack said) side ws r behind (move-reads schema rows (notes schema packets) r.lines (end_reading_of side r) part k.read_is.outlined k.read_is.origins)))
+      let readable : LinesPass schema reads_test r output.lines following =
+      pass-both schema event_test (test_at (λ own other said. is_readable_what schema own.stack said)) r output.lines following
+      (pass-events schema r output.lines following (event-lines r.last e.side output.lines (events_have_their_lines schema e link ev output is).lines))
+      (subst (λ (ls : List Line). LinesPass schema (test_at (λ own other said. is_readable_what schema own.stack said)) r ls following) (sym said)
+      (pass-lines schema (λ own other said. is_readable_what schema own.stack said) side ws r following (move-reads schema rows (notes schema packets) r.lines (end_reading_of side r) part k.read_is.outlined k.read_is.origins)))
       in
-      let falls : LinesPass schema fallen_test r output.lines behind =
-      pass-both schema (moment_at (moment_test law.Fallen schema)) (test_at (λ own other said. fallen_line own said)) r output.lines behind
-      (moments (moment_test law.Fallen schema) e link ev output r behind is (fallen-at e lines packets k))
-      (subst (λ (ls : List Line). LinesPass schema (test_at (λ own other said. fallen_line own said)) r ls behind) (sym said) (pass-lines schema (λ own other said. fallen_line own said) side ws r behind fallen))
+      let falls : LinesPass schema fallen_test r output.lines following =
+      pass-both schema (moment_at (moment_test law.Fallen schema)) (test_at (λ own other said. fallen_line own said)) r output.lines following
+      (moments (moment_test law.Fallen schema) e link ev output r following is (fallen-at e lines packets k))
+      (subst (λ (ls : List Line). LinesPass schema (test_at (λ own other said. fallen_line own said)) r ls following) (sym said) (pass-lines schema (λ own other said. fallen_line own said) side ws r following fallen))
       in
-      let settles : LinesPass schema settled_test r output.lines behind = moments (λ (x : Reading). settled_moment (end_reading_of side x)) e link ev output r behind is (settled-at e lines packets k) in
-      pass-both schema reads_test (λ r l b. fallen_test r l b && settled_test r l b) r output.lines behind readable (pass-both schema fallen_test settled_test r output.lines behind falls settles)
+      let settles : LinesPass schema settled_test r output.lines following = moments (λ (x : Reading). settled_moment (end_reading_of side x)) e link ev output r following is (settled-at e lines packets k) in
+      pass-both schema reads_test (λ r l b. fallen_test r l b && settled_test r l b) r output.lines following readable (pass-both schema fallen_test settled_test r output.lines following falls settles)
 
   own-side : (e : End) (lines : List Line) (whats : List What) → e.side ≡ side → lines ≡ map (line_at e.side) whats → lines ≡ map (line_at side) whats
   own-side e lines whats is said = said ∙ ap (λ (s : Side). map (line_at s) whats) is
@@ -270,10 +271,10 @@ module _ (schema : Schema) (sound : IsSound schema) (top : ℕ) (side : Side) wh
   -- What a run has kept.
   record RunKept (e : End) (lines : List Line) (packets : List Packet) : Type 0 where
     kept : Kept e lines packets
-    passes : (behind : List Line) → LinesPass schema alone_test opening_reading lines behind
-    places : (before : List Line) (w : What) (behind : List Line) → lines ≡ before ++ line_at side w ∷ behind → LineIsAlone schema top side packets before w behind
+    passes : (following : List Line) → LinesPass schema alone_test opening_reading lines following
+    places : (before : List Line) (w : What) (following : List Line) → lines ≡ before ++ line_at side w ∷ following → LineIsAlone schema top side packets before w following
 
-  -- at each place no more packets were delivered than in all
+  -- at each place at most all packets were delivered
   few-delivered : (e : End) (lines : List Line) (packets : List Packet) (before rest : List Line) → Kept e lines packets → lines ≡ before ++ rest → length (delivered (said_by side before)) ≤ length packets
   few-delivered e lines packets before rest k is =
       let whole : delivered (said_by side before) ++ delivered (said_by side rest) ≡ map delivered_kind packets =
@@ -286,17 +287,17 @@ module _ (schema : Schema) (sound : IsSound schema) (top : ℕ) (side : Side) wh
   adds : (e : End) (lines : List Line) (packets given more : List Packet) (output : Output) → given ≡ packets ++ more → RunKept e lines packets → StepAdds lines given output → RunKept output.end (lines ++ output.lines) given
   adds e lines packets given more output grown k a = record {
     kept = a.kept;
-    passes = λ behind. pass-append schema alone_test opening_reading lines output.lines behind (k.passes (output.lines ++ behind)) (a.passes behind);
-    places = λ before w behind at. by before w behind (place-in lines output.lines before (line_at side w) behind at);
+    passes = λ following. pass-append schema alone_test opening_reading lines output.lines following (k.passes (output.lines ++ following)) (a.passes following);
+    places = λ before w following at. by before w following (place-in lines output.lines before (line_at side w) following at);
   }
     where
-      by : (before : List Line) (w : What) (behind : List Line) → PlaceIn lines output.lines before (line_at side w) behind → LineIsAlone schema top side given before w behind
-      by before w behind (in_first rest is same) =
-          subst (λ (ps : List Packet). LineIsAlone schema top side ps before w behind) (sym grown)
+      by : (before : List Line) (w : What) (following : List Line) → PlaceIn lines output.lines before (line_at side w) following → LineIsAlone schema top side given before w following
+      by before w following (in_first rest is same) =
+          subst (λ (ps : List Packet). LineIsAlone schema top side ps before w following) (sym grown)
           (subst (LineIsAlone schema top side (packets ++ more) before w) (sym same)
           (line-more schema top side packets more before w rest output.lines (few-delivered e lines packets before (line_at side w ∷ rest) k.kept is) (k.places before w rest is)))
-      by before w behind (in_second front is same) =
-          subst (λ (ls : List Line). LineIsAlone schema top side given ls w behind) (sym is) (line-new schema top side given lines a.whats front w behind a.alone (sym a.is ∙ same))
+      by before w following (in_second front is same) =
+          subst (λ (ls : List Line). LineIsAlone schema top side given ls w following) (sym is) (line-new schema top side given lines a.whats front w following a.alone (sym a.is ∙ same))
 
   opening-read : KeepsRead schema [] (opening_end top side) opening
   opening-read = record {
@@ -327,9 +328,9 @@ module _ (schema : Schema) (sound : IsSound schema) (top : ℕ) (side : Side) wh
       by Parent = refl
       by Child = refl
 
-  no-place : {A : Type 0} (before : List Line) (l : Line) (behind : List Line) → [] ≡ before ++ l ∷ behind → A
-  no-place [] l behind e = cc
-  no-place (b ∷ before) l behind e = cc
+  no-place : {A : Type 0} (before : List Line) (l : Line) (following : List Line) → [] ≡ before ++ l ∷ following → A
+  no-place [] l following e = cc
+  no-place (b ∷ before) l following e = cc
 
   opening-kept : RunKept (opening_end top side) [] []
   opening-kept = record {
@@ -337,10 +338,10 @@ module _ (schema : Schema) (sound : IsSound schema) (top : ℕ) (side : Side) wh
       side_is = refl;
       read_is = subst (KeepsRead schema [] (opening_end top side)) (sym opening-side) opening-read;
       others = opening-other;
-      built = ((record { id = pos 2147483647; protocol = top; manager = pos 0 }, here, refl, refl), tt);
+      built = ((record { id = top_id; protocol = top; manager = pos 0 }, here, refl, refl), tt);
     };
-    passes = λ behind. tt;
-    places = λ before w behind at. no-place before (line_at side w) behind at;
+    passes = λ following. tt;
+    places = λ before w following at. no-place before (line_at side w) following at;
   }
 
   run-kept : (e : End) (lines : List Line) (packets : List Packet) → RunsAlone schema top side e lines packets → RunKept e lines packets
@@ -349,53 +350,53 @@ module _ (schema : Schema) (sound : IsSound schema) (top : ℕ) (side : Side) wh
   run-kept _ _ _ (gets {e = e} {lines = lines} {packets = packets} packet output run fits accepted is) =
       let k = run-kept e lines packets run in adds e lines packets (packets ++ packet ∷ []) (packet ∷ []) output refl k (delivery-adds e lines packets packet output k.kept fits accepted is)
 
-  -- What follows of runs
+  -- Consequences for runs
 
   module _ (e : End) (lines : List Line) (packets : List Packet) (k : RunKept e lines packets) where
-    each-place : (before : List Line) (l : Line) (behind : List Line) → lines ≡ before ++ l ∷ behind → IsTrue (alone_test (read schema before) l behind)
-    each-place = each-from (λ before line behind. alone_test (read schema before) line behind) [] lines (each-passes schema alone_test [] lines (k.passes []))
+    each-place : (before : List Line) (l : Line) (following : List Line) → lines ≡ before ++ l ∷ following → IsTrue (alone_test (read schema before) l following)
+    each-place = each-from (λ before line following. alone_test (read schema before) line following) [] lines (each-passes schema alone_test [] lines (k.passes []))
 
-    readable-place : (before : List Line) (l : Line) (behind : List Line) → lines ≡ before ++ l ∷ behind → IsTrue (is_readable schema (read schema before) l)
+    readable-place : (before : List Line) (l : Line) (following : List Line) → lines ≡ before ++ l ∷ following → IsTrue (is_readable schema (read schema before) l)
     unfolding is_readable
-    readable-place before l behind at = (and_parts (reads_test (read schema before) l behind) (fallen_test (read schema before) l behind && settled_test (read schema before) l behind) (each-place before l behind at)).0
+    readable-place before l following at = (and_parts (reads_test (read schema before) l following) (fallen_test (read schema before) l following && settled_test (read schema before) l following) (each-place before l following at)).0
 
-    rest-place : (before : List Line) (l : Line) (behind : List Line) → lines ≡ before ++ l ∷ behind → IsTrue (fallen_test (read schema before) l behind) × IsTrue (settled_test (read schema before) l behind)
-    rest-place before l behind at =
-        and_parts (fallen_test (read schema before) l behind) (settled_test (read schema before) l behind) ((and_parts (reads_test (read schema before) l behind) (fallen_test (read schema before) l behind && settled_test (read schema before) l behind) (each-place before l behind at)).1)
+    rest-place : (before : List Line) (l : Line) (following : List Line) → lines ≡ before ++ l ∷ following → IsTrue (fallen_test (read schema before) l following) × IsTrue (settled_test (read schema before) l following)
+    rest-place before l following at =
+        and_parts (fallen_test (read schema before) l following) (settled_test (read schema before) l following) ((and_parts (reads_test (read schema before) l following) (fallen_test (read schema before) l following && settled_test (read schema before) l following) (each-place before l following at)).1)
 
     lines-readable : IsReadable schema lines
-    lines-readable = each-to (λ before line behind. is_readable schema (read schema before) line) [] lines (λ front l behind at. readable-place front l behind at)
+    lines-readable = each-to (λ before line following. is_readable schema (read schema before) line) [] lines (λ front l following at. readable-place front l following at)
 
-    at-moment : (moment : Reading → Bool) → moment (read schema lines) ≡ true → ((before : List Line) (l : Line) (behind : List Line) → lines ≡ before ++ l ∷ behind → IsTrue (moment_at moment (read schema before) l behind))
-        → (before behind : List Line) → lines ≡ before ++ behind → IsTrue (is_moment behind) → IsTrue (moment (read schema before))
+    at-moment : (moment : Reading → Bool) → moment (read schema lines) ≡ true → ((before : List Line) (l : Line) (following : List Line) → lines ≡ before ++ l ∷ following → IsTrue (moment_at moment (read schema before) l following))
+        → (before following : List Line) → lines ≡ before ++ following → IsTrue (is_moment following) → IsTrue (moment (read schema before))
     at-moment moment last each before [] at m = subst (λ (ls : List Line). IsTrue (moment (read schema ls))) (at ∙ append-nil before) last
-    at-moment moment last each before (l ∷ behind) at m = by (is_effect l.what) m (each before l behind at)
+    at-moment moment last each before (l ∷ following) at m = by (is_effect l.what) m (each before l following at)
       where
         by : (b : Bool) → IsTrue (not b) → IsTrue (if b then true else moment (read schema before)) → IsTrue (moment (read schema before))
         by true m h = cc
         by false m h = h
 
-    fallen-place : (before : List Line) (l : Line) (behind : List Line) → lines ≡ before ++ l ∷ behind → IsTrue (moment_at (moment_test law.Fallen schema) (read schema before) l behind) × IsTrue (fallen_line (end_reading_of l.side (read schema before)) l.what)
-    fallen-place before l behind at =
-        and_parts (moment_at (moment_test law.Fallen schema) (read schema before) l behind) (test_at (λ own other said. fallen_line own said) (read schema before) l behind) ((rest-place before l behind at).0)
+    fallen-place : (before : List Line) (l : Line) (following : List Line) → lines ≡ before ++ l ∷ following → IsTrue (moment_at (moment_test law.Fallen schema) (read schema before) l following) × IsTrue (fallen_line (end_reading_of l.side (read schema before)) l.what)
+    fallen-place before l following at =
+        and_parts (moment_at (moment_test law.Fallen schema) (read schema before) l following) (test_at (λ own other said. fallen_line own said) (read schema before) l following) ((rest-place before l following at).0)
 
     obeys-fallen : Holds law.Fallen schema lines
     obeys-fallen =
         passes-holds law.Fallen schema lines lines-readable (record {
-          places = λ before l behind at. (fallen-place before l behind at).1;
-          moments = at-moment (moment_test law.Fallen schema) (fallen-at e lines packets k.kept) (λ before l behind at. (fallen-place before l behind at).0);
+          places = λ before l following at. (fallen-place before l following at).1;
+          moments = at-moment (moment_test law.Fallen schema) (fallen-at e lines packets k.kept) (λ before l following at. (fallen-place before l following at).0);
         })
 
     obeys-alone : Alone schema top side lines packets
     obeys-alone = record {
       deliveries = sym (delivered-read schema side lines) ∙ k.kept.read_is.delivered;
-      resolves = λ n values before behind at. k.places before (what.Resolved n values) behind at;
-      rejects = λ n why before behind at. k.places before (what.Rejected n why) behind at;
-      closings = λ r before behind at m closed there wants.
+      resolves = λ n values before following at. k.places before (what.Resolved n values) following at;
+      rejects = λ n why before following at. k.places before (what.Rejected n why) following at;
+      closings = λ r before following at m closed there wants.
           moment-to schema side before
-          (at-moment (λ (x : Reading). settled_moment (end_reading_of side x)) (settled-at e lines packets k.kept) (λ before l behind at. (rest-place before l behind at).1) before behind at m) closed r there wants;
-      answers = λ n values before behind at. k.places before (what.ResumeOk n values) behind at;
-      faults = λ n why before behind at. k.places before (what.ResumeFault n why) behind at;
+          (at-moment (λ (x : Reading). settled_moment (end_reading_of side x)) (settled-at e lines packets k.kept) (λ before l following at. (rest-place before l following at).1) before following at m) closed r there wants;
+      answers = λ n values before following at. k.places before (what.ResumeOk n values) following at;
+      faults = λ n why before following at. k.places before (what.ResumeFault n why) following at;
     }
 
 pub one_end_obeys_alone : OneEndObeysAlone

@@ -64,7 +64,7 @@ use Rattle.channel_laws.proofs.Counting.{int-same}
 use Rattle.channel_laws.proofs.Delivered.{delivery-delivers, own-delivers-none}
 use Rattle.channel_laws.proofs.Exchanges.{ends_read_exchanges}
 use Rattle.channel_laws.proofs.FallenRuns.{ends_obey_fallen}
-use Rattle.channel_laws.proofs.Growing.{delivered-are, grows, in-before, in-behind, origins-grow, whats-append}
+use Rattle.channel_laws.proofs.Growing.{delivered-are, grows, in-before, in-following, origins-grow, whats-append}
 use Rattle.channel_laws.proofs.Moves.{StepParts, acts, delivers}
 use Rattle.channel_laws.proofs.Outlines.{RepliesFit}
 use Rattle.channel_laws.proofs.RepliesKept.{replies-step}
@@ -82,7 +82,7 @@ use Rattle.alone_laws.proofs.AloneLines.{others-more, own-more, said-more}
 use Rattle.alone_laws.proofs.LivingActors.{delivery-built, own-built}
 use Rattle.alone_laws.proofs.RepliesKept.{SendIsNoted, delivery-replies, first-replies, laters-replies, more-failed, more-noted}
 
--- Lines of one side are what they say
+-- Lines of one side are their contents
 
 pub whats-same : (side : Side) (xs ys : List What) → map (line_at side) xs ≡ map (line_at side) ys → xs ≡ ys
 whats-same side [] [] e = refl
@@ -99,13 +99,13 @@ or-left : (b c : Bool) → b ≡ true → b || c ≡ true
 or-left true c e = refl
 or-left false c e = cc
 
-or-behind : (b c : Bool) → c ≡ true → b || c ≡ true
-or-behind true c e = refl
-or-behind false c e = e
+or-following : (b c : Bool) → c ≡ true → b || c ≡ true
+or-following true c e = refl
+or-following false c e = e
 
 has-here : (n : ℤ) (ns : List ℤ) → In n ns → has ns n ≡ true
 has-here n _ (here {xs}) = ap (λ (b : Bool). b || has xs n) (int-same n)
-has-here n _ (there {y} {xs} i) = or-behind (int_eq y n) (has xs n) (has-here n xs i)
+has-here n _ (there {y} {xs} i) = or-following (int_eq y n) (has xs n) (has-here n xs i)
 
 failed-all : (ns : List ℤ) → filter_map number_failed (map what.Fails ns) ≡ ns
 failed-all [] = refl
@@ -127,7 +127,7 @@ module _ (schema : Schema) (side : Side) (lines : List Line) (ws : List What) wh
   failed-stays n h = ap (λ (xs : List ℤ). has xs n) failed-more ∙ (has-append own.failed (failed ws) n ∙ or-left (has own.failed n) (has (failed ws) n) h)
 
   failed-said : (n : ℤ) → has (failed ws) n ≡ true → has next.failed n ≡ true
-  failed-said n h = ap (λ (xs : List ℤ). has xs n) failed-more ∙ (has-append own.failed (failed ws) n ∙ or-behind (has own.failed n) (has (failed ws) n) h)
+  failed-said n h = ap (λ (xs : List ℤ). has xs n) failed-more ∙ (has-append own.failed (failed ws) n ∙ or-following (has own.failed n) (has (failed ws) n) h)
 
 -- the calls that a farewell fails
 farewell-fails : (packet : Packet) (ns : List ℤ) (n : ℤ) → In n ns → has (failed (farewell_line packet ∷ map what.Fails ns)) n ≡ true
@@ -143,7 +143,7 @@ farewell-fails packet ns n i = by packet
 -- A request that lines send is noted
 
 last-noted : (side : Side) (sent : List SentPacket) (r : told.Request) → In (asks (request_note side r)) (told_notes side (sent ++ told.request r ∷ []))
-last-noted side sent r = subst (In (asks (request_note side r))) (sym (map-append (told_note side) sent (told.request r ∷ []))) (in-behind (told_notes side sent) here)
+last-noted side sent r = subst (In (asks (request_note side r))) (sym (map-append (told_note side) sent (told.request r ∷ []))) (in-following (told_notes side sent) here)
 
 send-noted : (schema : Schema) (place : ℕ) (side : Side) (own : EndReading) (row : MessageRow) (m : Message) (vs : Values) → IsRequested (told_notes side (reads.after_what schema place (send.send_line row m vs) own).sent) m.seq m.route m.number
 send-noted schema place side own row m vs = by (is_sync_row row)
@@ -186,7 +186,7 @@ module _ (schema : Schema) (sound : IsSound schema) (packets : List Packet) (e :
   rows : HasSoundRows schema
   rows = sound_schemas_have_sound_rows schema sound
 
-  -- what replies are kept by the parts of a step
+  -- the replies that the parts of a step keep
   own-replies : (side : Side) {f : End} {ws : List What} {ps : List Packet} {q : Phase} → OwnParts schema e ws ps f q → e.side ≡ side → f.side ≡ e.side → ((n : ℤ) → has own.failed n ≡ true → has (after_whats schema place ws own).failed n ≡ true)
       → KeepsReplies f packets (after_whats schema place ws own).failed (told_notes f.side (after_whats schema place ws own).sent)
   own-replies side {f = g} (parts.begun {f = f} {ws = ws} {vs = vs} part rest ended) is same stays =
@@ -296,7 +296,7 @@ module _ (schema : Schema) (sound : IsSound schema) (top : ℕ) (side : Side) wh
   abbrev Kept : End → List Line → List Packet → Type 0
   Kept e lines packets = KeepsAlone schema top side e lines packets
 
-  -- with other lines that say the same
+  -- the same with other lines that are equal
   same-lines : (e : End) (lines more : List Line) (packets : List Packet) → lines ≡ more → Kept e lines packets → Kept e more packets
   same-lines e lines more packets is k = subst (λ (ls : List Line). Kept e ls packets) is k
 

@@ -16,7 +16,7 @@ use Rattle.history_reading.specs.declared.parts.BuiltActor.{BuiltActor}
 use Rattle.history_reading.specs.EndReading.{EndReading}
 use Rattle.history_reading.specs.Numbers.{has}
 use Rattle.channel_model.specs.Ends.{End, Packet}
-use Rattle.channel_model.specs.Numbers.{top_id}
+use Rattle.ipdl_base.specs.Sides.{top_id}
 use Rattle.channel_model.specs.Parts as parts
 use Rattle.channel_model.specs.Parts.{FirstPart, LaterPart, LaterParts, OwnParts, DeliveryPart, falling}
 use Rattle.channel_model.specs.Phases.{Phase, manager_of}
@@ -25,14 +25,14 @@ use Rattle.channel_laws.specs.EndActors.{built_actor, shown_actor, standing, Rea
 use Rattle.channel_laws.specs.Notes.{In, here, there}
 use Rattle.channel_laws.specs.Rows.{HasSoundRows}
 use Rattle.channel_laws.proofs.ActorParts.{first-begins, delivery-begins}
-use Rattle.channel_laws.proofs.Growing.{in-before, in-behind}
+use Rattle.channel_laws.proofs.Growing.{in-before, in-following}
 use Rattle.law_statements.specs.Actors as said_actors
 use Rattle.law_statements.specs.Actors.{fallen, last_actor, built_at}
 use Rattle.law_statements.specs.Said.{made_of}
 use Rattle.alone_laws.specs.KeptAlone.{WasBuilt}
 use Rattle.alone_laws.specs.Received.{actor_built, actors_built, actors_living}
 
--- Lists that are made of what is said
+-- Lists that are made from the lines of an end
 
 cons-append : {A : Type 0} (o : Option A) (xs ys : List A) → cons_option o (xs ++ ys) ≡ cons_option o xs ++ ys
 cons-append None xs ys = refl
@@ -44,22 +44,22 @@ made-append make before (x ∷ xs) ys =
     ap (cons_option (make before x)) (made-append make (before ++ x ∷ []) xs ys ∙ ap (λ (b : List What). made_of make (before ++ x ∷ []) xs ++ made_of make b ys) (append_assoc before (x ∷ []) xs))
     ∙ cons-append (make before x) (made_of make (before ++ x ∷ []) xs) (made_of make (before ++ x ∷ xs) ys)
 
--- Who was built, with a protocol
+-- The actors that were built, each with a protocol
 
 in-more : {A : Type 0} (x y : A) (xs more : List A) → In x (y ∷ xs) → In x (y ∷ (xs ++ more))
 in-more x y xs more i = in-before more i
 
 built-more : (top : ℕ) (said ws : List What) (b : Actor) → In b (actors_built top said) → In b (actors_built top (said ++ ws))
 built-more top said ws b i =
-    subst (λ (xs : List Actor). In b (record { id = pos 2147483647; protocol = top; manager = pos 0 } ∷ xs)) (sym (made-append actor_built [] said ws))
-    (in-more b (record { id = pos 2147483647; protocol = top; manager = pos 0 }) (made_of actor_built [] said) (made_of actor_built said ws) i)
+    subst (λ (xs : List Actor). In b (record { id = top_id; protocol = top; manager = pos 0 } ∷ xs)) (sym (made-append actor_built [] said ws))
+    (in-more b (record { id = top_id; protocol = top; manager = pos 0 }) (made_of actor_built [] said) (made_of actor_built said ws) i)
 
 pub all-built-more : (top : ℕ) (said ws : List What) (actors : List Actor) → AllByRecursion (WasBuilt top said) actors → AllByRecursion (WasBuilt top (said ++ ws)) actors
 all-built-more top said ws actors = all-map (WasBuilt top said) (WasBuilt top (said ++ ws)) actors (λ a w. (w.0, built-more top said ws w.0 w.1, w.2, w.3))
 
 built-last : (top : ℕ) (said : List What) (id : ℤ) (protocol : ℕ) → In (record { id = id; protocol = protocol; manager = last_actor said }) (actors_built top (said ++ what.Built id protocol ∷ []))
 built-last top said id protocol =
-    there (subst (In (record { id = id; protocol = protocol; manager = last_actor said })) (sym (made-append actor_built [] said (what.Built id protocol ∷ []))) (in-behind (made_of actor_built [] said) here))
+    there (subst (In (record { id = id; protocol = protocol; manager = last_actor said })) (sym (made-append actor_built [] said (what.Built id protocol ∷ []))) (in-following (made_of actor_built [] said) here))
 
 all-filter : (P : Actor → Type 0) (test : Actor → Bool) (xs : List Actor) → AllByRecursion P xs → AllByRecursion P (filter test xs)
 all-filter P test [] h = tt
@@ -115,7 +115,7 @@ shown-made before (w ∷ ws) =
     ∙ (ap (λ (o : Option BuiltActor). cons_option o (map shown_actor (made_of actor_built (before ++ w ∷ []) ws))) (shown-at before w) ∙ ap (cons_option (built_at before w)) (shown-made (before ++ w ∷ []) ws))
 
 shown-built : (top : ℕ) (said : List What) → map shown_actor (actors_built top said) ≡ said_actors.built said
-shown-built top said = ap (λ (xs : List BuiltActor). record { id = pos 2147483647; manager = pos 0 } ∷ xs) (shown-made [] said)
+shown-built top said = ap (λ (xs : List BuiltActor). record { id = top_id; manager = pos 0 } ∷ xs) (shown-made [] said)
 
 shown-standing : (f : List ℤ) (xs : List Actor) → map shown_actor (filter (λ a. not (has f a.id)) xs) ≡ standing f (map shown_actor xs)
 shown-standing f [] = refl
@@ -126,7 +126,7 @@ shown-standing f (x ∷ xs) = by (not (has f x.id)) (shown-standing f xs)
     by true e = ap (λ (ys : List BuiltActor). shown_actor x ∷ ys) e
     by false e = e
 
--- no two that were built have one id
+-- no two actors that were built have the same id
 abbrev plain_actor : Actor → Actor
 plain_actor a = built_actor (shown_actor a)
 
@@ -161,7 +161,7 @@ all-in : (xs : List Actor) → AllByRecursion (λ x. In x xs) xs
 all-in [] = tt
 all-in (x ∷ xs) = (here, all-map (λ y. In y xs) (λ y. In y (x ∷ xs)) xs (λ y i. there i) (all-in xs))
 
--- who lives by the lines lives at the end
+-- an actor that lives by the lines lives at the end
 pub living-is : (schema : Schema) (top : ℕ) (e : End) (own : EndReading) (said : List What) → own.built ≡ said_actors.built said → own.fallen ≡ fallen said → ReadsActors schema e own → AllByRecursion (WasBuilt top said) e.actors → actors_living top said ≡ e.actors
 living-is schema top e own said built fell k h =
     let once : EachOnce (map built_actor own.built) = tree-once (map built_actor own.built) k.ids.known.tree in

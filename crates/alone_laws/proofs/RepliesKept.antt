@@ -23,16 +23,17 @@ use Rattle.nesting_core.specs.Answers.{awaited}
 use Rattle.pending_queue.specs.declared.item.Item.{Item}
 use Rattle.pending_queue.specs.declared.item.Item.TheVariants as item
 use Rattle.pending_queue.specs.Compression.{is_request, replaced, staying}
-use Rattle.pending_queue.specs.Holding.{is_free}
+use Rattle.pending_queue.specs.DeferralContext.{is_free}
 use Rattle.promise_table.specs.declared.promise.Outcome.{Outcome}
 use Rattle.channel_model.specs.Answers as answering
 use Rattle.channel_model.specs.Deliveries as delivery
 use Rattle.channel_model.specs.Ends.{End, Packet, message, mark, StackEntry, PromiseEntry}
 use Rattle.channel_model.specs.Events.{Answering, handled, kept}
-use Rattle.channel_model.specs.Numbers.{is_sync_row, makes_promise, top_id}
+use Rattle.ipdl_base.specs.Sides.{top_id}
+use Rattle.channel_model.specs.Numbers.{is_sync_row, makes_promise}
 use Rattle.channel_model.specs.Outputs.{body_of}
 use Rattle.channel_model.specs.Parts as parts
-use Rattle.channel_model.specs.Parts.{FirstPart, LaterPart, LaterParts, OwnParts, DeliveryPart, IsNoMessage, end_behind, farewell_item, left_end, reply_outcome}
+use Rattle.channel_model.specs.Parts.{FirstPart, LaterPart, LaterParts, OwnParts, DeliveryPart, IsNoMessage, end_after, farewell_item, left_end, reply_outcome}
 use Rattle.channel_model.specs.Phases.{Phase}
 use Rattle.channel_model.specs.Requests.{IsSeqOf}
 use Rattle.channel_model.specs.Sends as send
@@ -52,17 +53,17 @@ use Rattle.alone_laws.specs.Received.{answer_in, answer_to, answers_to}
 use Rattle.alone_laws.proofs.ReplyLists.{answer-of, answer-apart, answer-same, answers-none, answers-last, answers-other, items-last, items-taken, none-yet, none-arrived, packets-more, items-more, awaited-last, awaited-rejected, awaited-settled}
 use Rattle.alone_laws.proofs.WaitLists.{waits-none, waits-failed, waits-dropped, waits-handled, waits-released, waits-ended, waits-more, waits-answered, waits-sent, waits-called, AreRequested, all-requested-more, requested-dropped, requested-released, requested-failed, requested-answered}
 
--- Ends that differ in what replies do not touch
+-- Ends that differ only in what does not affect replies
 
-behind-same : (b : Bool) (e : End) (packets : List Packet) (failed : List ℤ) (sent : List Note) → KeepsReplies e packets failed sent → KeepsReplies (end_behind b e) packets failed sent
-behind-same true e packets failed sent k = record { pending = k.pending; known = k.known; arrived = k.arrived; waits = k.waits; requested = k.requested }
-behind-same false e packets failed sent k = k
+following-same : (b : Bool) (e : End) (packets : List Packet) (failed : List ℤ) (sent : List Note) → KeepsReplies e packets failed sent → KeepsReplies (end_after b e) packets failed sent
+following-same true e packets failed sent k = record { pending = k.pending; known = k.known; arrived = k.arrived; waits = k.waits; requested = k.requested }
+following-same false e packets failed sent k = k
 
 without-same : (by : Answering) (e : End) (packets : List Packet) (failed : List ℤ) (sent : List Note) → KeepsReplies e packets failed sent → KeepsReplies (record (answering.without_resolver by e) { outbox = [] }) packets failed sent
 without-same (handled seq) e packets failed sent k = record { pending = k.pending; known = k.known; arrived = k.arrived; waits = waits-released e.side e.sent packets failed seq e.stack k.waits; requested = requested-released sent seq e.stack k.requested }
 without-same (kept name number) e packets failed sent k = record { pending = k.pending; known = k.known; arrived = k.arrived; waits = k.waits; requested = k.requested }
 
--- nothing has arrived, and nothing is taken any more
+-- nothing has arrived, and nothing more is taken
 emptied : (e f : End) (packets : List Packet) (failed : List ℤ) (sent : List Note) → f.side ≡ e.side → f.sent ≡ e.sent → f.arrived ≡ [] → take.takes_in_state f.state ≡ false → WaitsReceive f.side f.sent packets failed f.stack → AreRequested sent f.stack → KeepsReplies e packets failed sent → KeepsReplies f packets failed sent
 emptied e f packets failed sent side count none closed waits requested k = record {
   pending = λ n awaited takes. absurd (true≢false (sym takes ∙ closed));
@@ -111,19 +112,19 @@ packet-farewell side count (message m) is = by m.body is
     by Goodbye is = (tt, tt)
 packet-farewell side count mark is = (tt, tt)
 
--- what is left when an item that answers nothing pending is taken
+-- what is left when an item is taken that does not answer a pending request
 left-replies : (e : End) (packets : List Packet) (failed : List ℤ) (sent : List Note) (x : Item) → take.taken_next e ≡ Some x → ((n : ℤ) → take.is_awaited n e.promises ≡ true → item_answer n x ≡ None) → KeepsReplies e packets failed sent → KeepsReplies (left_end e) packets failed sent
 left-replies e packets failed sent x next none k =
     let t : TakenFrom e.arrived (left_end e).arrived x = (taken-first e x next).taken in
     record {
       pending = λ n awaited takes. items-taken n e.arrived (left_end e).arrived x t (none n awaited) ∙ k.pending n awaited takes;
       known = k.known;
-      arrived = all-sublist (ItemIsKnown e.side e.sent) (left_end e).arrived e.arrived (without_first-sublist (is_free (take.holding_of e)) e.arrived) k.arrived;
+      arrived = all-sublist (ItemIsKnown e.side e.sent) (left_end e).arrived e.arrived (without_first-sublist (is_free (take.deferral_context_of e)) e.arrived) k.arrived;
       waits = k.waits;
       requested = k.requested;
     }
 
--- a reply of a message that comes too late answers nothing pending
+-- a reply of a message that comes too late does not answer a pending request
 late-none : (schema : Schema) (theirs : List Note) (e : End) (m : Message) (sync : Bool) (level : Level) (a : Answer) → m.body ≡ body_of a → parts.is_settling schema e m ≡ false → BodyOrigin schema theirs m m.body → (n : ℤ) → take.is_awaited n e.promises ≡ true → item_answer n (item.Message m sync level) ≡ None
 late-none schema theirs e m sync level a body late origin n awaited = by (int_eq m.seq n) refl
   where
@@ -189,7 +190,7 @@ module _ (schema : Schema) (theirs : List Note) (packets : List Packet) (failed 
       let l : KeepsReplies (left_end e) packets failed sent = left-replies e packets failed sent (item.Message m sync level) next (λ n awaited. request-none n m sync level vs body) k in
       record { pending = l.pending; known = l.known; arrived = l.arrived; waits = waits-handled e.side e.sent packets failed (take.dispatch_of row m) e.stack refl tt l.waits; requested = (tt, l.requested) }
   first-replies {e} (parts.drops m sync level row vs id replies next body found gone is) o t k =
-      behind-same replies (left_end e) packets failed sent (left-replies e packets failed sent (item.Message m sync level) next (λ n awaited. request-none n m sync level vs body) k)
+      following-same replies (left_end e) packets failed sent (left-replies e packets failed sent (item.Message m sync level) next (λ n awaited. request-none n m sync level vs body) k)
   first-replies {e} (parts.drops_unknown m sync level vs next body none) o t k = left-replies e packets failed sent (item.Message m sync level) next (λ n awaited. request-none n m sync level vs body) k
   first-replies {e} (parts.takes_reply m sync level a next body late) o t k =
       left-replies e packets failed sent (item.Message m sync level) next (late-none schema theirs e m sync level a body late (taken-origin schema theirs e (item.Message m sync level) o next)) k
@@ -200,14 +201,14 @@ module _ (schema : Schema) (theirs : List Note) (packets : List Packet) (failed 
             let s = awaited-settled n m.seq (reply_outcome schema e row a) e.promises awaited in
             items-taken n e.arrived (left_end e).arrived (item.Message m sync level) left (answer-apart n m s.1) ∙ k.pending n s.0 takes;
         known = k.known;
-        arrived = all-sublist (ItemIsKnown e.side e.sent) (left_end e).arrived e.arrived (without_first-sublist (is_free (take.holding_of e)) e.arrived) k.arrived;
+        arrived = all-sublist (ItemIsKnown e.side e.sent) (left_end e).arrived e.arrived (without_first-sublist (is_free (take.deferral_context_of e)) e.arrived) k.arrived;
         waits = k.waits;
         requested = k.requested;
       }
   first-replies {e} {f} (parts.shuts last next is) o t k = emptied e f packets failed sent refl refl refl refl k.waits k.requested k
   first-replies {e} (parts.returns entry row vs told lost may y z) o t k =
-      behind-same lost (end_behind told (record e { stack = drop 1 e.stack })) packets failed sent
-      (behind-same told (record e { stack = drop 1 e.stack }) packets failed sent
+      following-same lost (end_after told (record e { stack = drop 1 e.stack })) packets failed sent
+      (following-same told (record e { stack = drop 1 e.stack }) packets failed sent
       (record { pending = k.pending; known = k.known; arrived = k.arrived; waits = waits-dropped e.side e.sent packets failed e.stack k.waits; requested = requested-dropped sent e.stack k.requested }))
   first-replies {e} (parts.resumes wait row on_top found) o t k = record { pending = k.pending; known = k.known; arrived = k.arrived; waits = waits-dropped e.side e.sent packets failed e.stack k.waits; requested = requested-dropped sent e.stack k.requested }
 
@@ -246,8 +247,8 @@ more-failed e packets failed next sent stays k = record { pending = k.pending; k
 pub more-noted : (e : End) (packets : List Packet) (failed : List ℤ) (sent more : List Note) → KeepsReplies e packets failed sent → KeepsReplies e packets failed (sent ++ more)
 more-noted e packets failed sent more k = record { pending = k.pending; known = k.known; arrived = k.arrived; waits = k.waits; requested = all-requested-more sent more e.stack k.requested }
 
--- What is known of a reply that is delivered: one to a sync request answers the innermost wait, and one to another request
--- neither answers a wait nor a request that is still to come.
+-- What is known of a reply that is delivered: a reply to a sync request answers the innermost wait, and any other
+-- reply answers neither a wait nor a request that is still to come.
 pub record ReplyIsDue (e : End) (m : Message) (row : MessageRow) : Type 0 where
   pub known : IsSeqOf e.side e.sent m.seq
   pub awaits : is_sync_row row ≡ true → awaited (send.frames_of e) ≡ Some m.seq
@@ -276,7 +277,7 @@ all-none e p none = each e.stack
     each [] = tt
     each (x ∷ es) = ((λ n is. none n), each es)
 
--- items that stay behind a request have the same answers
+-- items that stay after a request have the same answers
 staying-answers : (n : ℤ) (row : MessageRow) (new : Item) (items : List Item) (old : Option Item) → replaced row.compress new items ≡ old → answers_in n (staying row.compress new items) ≡ answers_in n items
 staying-answers n row new items None is = ap (answers_in n) (none-replaced row.compress new items is)
 staying-answers n row new items (Some old) is =
@@ -296,7 +297,7 @@ counted-replies e packets failed sent row m vs body k =
       requested = k.requested;
     }
 
--- what a delivery leaves, where these calls have failed behind it
+-- what a delivery keeps, where these calls have failed after it
 pub delivery-replies : (schema : Schema) (packets : List Packet) (failed next : List ℤ) (sent : List Note) {packet : Packet} {e f : End} {ws : List What} {ps : List Packet} {q : Phase} → DeliveryPart schema packet e ws ps f q → take.takes_in_state e.state ≡ true
     → ((n : ℤ) → has failed n ≡ true → has next n ≡ true) → ((n : ℤ) → In n (delivery.unanswered e) → is_farewell (farewell_item packet) ≡ true → has next n ≡ true)
     → PacketIsDue schema e packet → ((m : Message) → packet ≡ message m → is_farewell (farewell_item packet) ≡ false → message_of schema m.number ≡ None → ⊥)
@@ -304,7 +305,7 @@ pub delivery-replies : (schema : Schema) (packets : List Packet) (failed next : 
 delivery-replies schema packets failed next sent {e = e} (parts.gets_request m row vs body found none) open_end stays fails due known k =
     more-failed (delivery.counted row (delivery.item_of row m) e) (packets ++ message m ∷ []) failed next sent stays (counted-replies e packets failed sent row m vs body k)
 delivery-replies schema packets failed next sent {e = e} (parts.replaces m row vs old sync level replies body found is told) open_end stays fails due known k =
-    behind-same replies (delivery.counted row (delivery.item_of row m) e) (packets ++ message m ∷ []) next sent
+    following-same replies (delivery.counted row (delivery.item_of row m) e) (packets ++ message m ∷ []) next sent
     (more-failed (delivery.counted row (delivery.item_of row m) e) (packets ++ message m ∷ []) failed next sent stays (counted-replies e packets failed sent row m vs body k))
 delivery-replies schema packets failed next sent {e = e} (parts.gets_answer m row a body found is) open_end stays fails due known k =
     let d : ReplyIsDue e m row = due row a body found in

@@ -49,7 +49,7 @@ if-none : (b : Bool) (o : Option Answer) → o ≡ None → (if b then o else No
 if-none true o e = e
 if-none false o e = refl
 
--- a packet answers its own number alone
+-- a packet answers only its own number
 pub answer-apart : (n : ℤ) (m : Message) → m.seq ≢ n → answer_to n (message m) ≡ None
 answer-apart n m apart = if-apart (int_eq m.seq n) (answer_in m.body) (int-apart m.seq n apart)
 
@@ -70,7 +70,7 @@ answers-other n packets p none = answers-last n packets p ∙ (ap (λ (o : Optio
 pub items-last : (n : ℤ) (items : List Item) (x : Item) → answers_in n (items ++ x ∷ []) ≡ answers_in n items ++ cons_option (item_answer n x) []
 items-last n items x = filter_map-append (item_answer n) items (x ∷ [])
 
--- an item that answers nothing leaves no gap
+-- removing an item that answers nothing changes no answers
 pub items-taken : (n : ℤ) (items rest : List Item) (x : Item) → TakenFrom items rest x → item_answer n x ≡ None → answers_in n rest ≡ answers_in n items
 items-taken n items rest x t none =
     ap (answers_in n) t.left
@@ -78,7 +78,7 @@ items-taken n items rest x t none =
     ∙ (ap (λ (o : Option Answer). answers_in n t.front ++ cons_option o (answers_in n t.back)) (sym none)
     ∙ (sym (filter_map-append (item_answer n) t.front (x ∷ t.back)) ∙ ap (answers_in n) (sym t.whole))))
 
--- the first of a list that begins so
+-- the first element of a list that begins so
 pub first-stays : (xs ys : List Answer) (a : Answer) → slice_get xs 0 ≡ Some a → slice_get (xs ++ ys) 0 ≡ Some a
 first-stays [] ys a e = cc
 first-stays (x ∷ xs) ys a e = e
@@ -130,7 +130,7 @@ items-more side count items = all-map (ItemIsKnown side count) (ItemIsKnown side
 
 -- Promises that wait
 
--- a promise that waits behind one more waits already, or is that one
+-- a promise that waits after one more was made waits already, or is that one
 pub awaited-last : (n : ℤ) (promises : List PromiseEntry) (new : PromiseEntry) → is_awaited n (promises ++ new ∷ []) ≡ true → (is_awaited n promises ≡ true) ⊎ (new.promise.seq ≡ n)
 awaited-last n [] new e = by (int_eq new.promise.seq n) refl e
   where
@@ -145,7 +145,7 @@ awaited-last n (entry ∷ promises) new e = by (int_eq entry.promise.seq n) e (a
     by true e rec = inl e
     by false e rec = rec e
 
--- one that waits behind a rejection waited before
+-- a promise that waits after a rejection waited before
 pub awaited-rejected : (n : ℤ) (test : Promise → Bool) (why : Reason) (promises : List PromiseEntry) → is_awaited n (rejected test why promises) ≡ true → is_awaited n promises ≡ true
 awaited-rejected n test why [] e = cc
 awaited-rejected n test why (entry ∷ promises) e = by (passes test entry) (int_eq entry.promise.seq n) refl e (awaited-rejected n test why promises)
@@ -161,7 +161,7 @@ awaited-rejected n test why (entry ∷ promises) e = by (passes test entry) (int
     by false true is e rec = sym (ap (λ (x : Bool). option_map_or (λ (y : PromiseEntry). is_pending y.promise) (cond x (Some entry) (find (λ y. has_number n y.promise) (rejected test why promises))) false) is) ∙ e
     by false false is e rec = rec (sym (ap (λ (x : Bool). option_map_or (λ (y : PromiseEntry). is_pending y.promise) (cond x (Some entry) (find (λ y. has_number n y.promise) (rejected test why promises))) false) is) ∙ e)
 
--- one that waits behind a settling waited before, and is another
+-- a promise that waits after a settling waited before, and is another
 pub awaited-settled : (n k : ℤ) (outcome : Outcome) (promises : List PromiseEntry) → is_awaited n (map (settled_entry k outcome) promises) ≡ true → (is_awaited n promises ≡ true) × (k ≢ n)
 awaited-settled n k outcome [] e = cc
 awaited-settled n k outcome (entry ∷ promises) e = by (int_eq entry.promise.seq k) (is_pending entry.promise) (int_eq entry.promise.seq n) refl refl refl e (awaited-settled n k outcome promises)

@@ -64,7 +64,7 @@ numbers-distinct x es h = by x.frame h
     by (Dispatch head) h = h
     by (Wait head a) h = h.1
 
--- each wait has what its number has
+-- what is true of the numbers of all waits is true of the number of each wait
 pub waits-have : (P : ℤ → Type 0) (es : List StackEntry) → AllByRecursion P (wait_numbers es) → AllByRecursion (λ entry. (n : ℤ) → wait_number entry.frame ≡ n ∷ [] → P n) es
 waits-have P [] h = tt
 waits-have P (x ∷ es) h = (by x.frame h, waits-have P es (numbers-all P x es h))
@@ -99,7 +99,7 @@ waits-handled side count packets failed x es none given k = record {
   given = (given, k.given);
 }
 
--- the frames as they are
+-- the same frames
 pub same-entries : (P : StackEntry → Type 0) (es : List StackEntry) → AllByRecursion P es → AllByRecursion P (delivery.with_frames (frames es) es)
 same-entries P [] h = tt
 same-entries P (x ∷ es) h = (h.0, same-entries P es h.1)
@@ -142,7 +142,7 @@ failed-numbers : (es : List StackEntry) → wait_numbers (map delivery.with_fail
 failed-numbers [] = refl
 failed-numbers (x ∷ es) = ap (λ (ns : List ℤ). ns ++ wait_numbers (map delivery.with_failed_wait es)) (failed-number x.frame) ∙ ap (λ (ns : List ℤ). wait_number x.frame ++ ns) (failed-numbers es)
 
--- the numbers of the waits without an answer
+-- the numbers of the unanswered waits
 abbrev unanswered_numbers : List StackFrame → List ℤ
 unanswered_numbers fs = map (λ (f : StackFrame). (head_of f).seq) (filter is_unanswered fs)
 
@@ -176,7 +176,7 @@ waits-more side count packets p failed es other k = record { known = k.known; ap
     each [] o g = tt
     each (x ∷ es) o g = (frame-more packets p failed x.frame o.0 g.0, each es o.1 g.1)
 
--- the innermost wait without an answer gets one
+-- the innermost unanswered wait gets an answer
 module _ (packets : List Packet) (p : Packet) (failed : List ℤ) (a : Answer) (n : ℤ) (here_is : answer_to n p ≡ Some a) (apart : (m : ℤ) → n ≢ m → answer_to m p ≡ None) where
   below : (es : List StackEntry) → AllByRecursion (λ later. n ≢ later) (wait_numbers es) → AllByRecursion (λ entry. FrameReceives packets failed entry.frame) es → AllByRecursion (λ entry. FrameReceives (packets ++ p ∷ []) failed entry.frame) es
   below [] d g = tt
@@ -229,7 +229,7 @@ waits-called side count packets failed x es n is given next k = record {
   given = (given, k.given);
 }
 
--- Waits are for own requests
+-- Waits are for the end's own requests
 
 abbrev pub AreRequested : List Note → List StackEntry → Type 0
 AreRequested sent es = AllByRecursion (λ (entry : StackEntry). FrameIsOwn sent entry entry.frame) es

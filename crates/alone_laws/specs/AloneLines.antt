@@ -1,4 +1,4 @@
--- The law of one end, line by line: what it says of a line behind others, where so many packets were delivered.
+-- The law of one end, line by line: what it requires of a line, given the lines before it and the delivered packets.
 use Rattle.std.specs.Prelude.{◌≡◌, ◌⊎◌, ℕ, IsTrue, List, Some}
 use Rattle.ipdl_base.specs.declared.kinds.Reason.TheVariants as reason
 use Rattle.ipdl_base.specs.declared.kinds.Side.{Side}
@@ -16,14 +16,14 @@ use Rattle.law_statements.specs.Settled.{IsPending}
 use Rattle.alone_laws.specs.Alone.{HasReason}
 use Rattle.alone_laws.specs.Received.{HasReceived}
 
--- what is settled is pending and was received, or has its cause; and so it is with a call that goes on
+-- what is settled is pending and was received, or has its cause; the same holds for a call that continues
 abbrev pub LineIsAlone : Schema → ℕ → Side → List Packet → List Line → What → List Line → Type 0
-LineIsAlone schema top end packets before (what.Resolved n values) behind =
+LineIsAlone schema top end packets before (what.Resolved n values) following =
     (r : Request) × IsPending schema (said_by end before) n r × HasReceived schema top (said_by end before) packets r.seq r.number (answer.Ok values)
-LineIsAlone schema top end packets before (what.Rejected n why) behind = (r : Request) × IsPending schema (said_by end before) n r × HasReason schema top end before behind packets r why
-LineIsAlone schema top end packets before (what.ResumeOk n values) behind =
+LineIsAlone schema top end packets before (what.Rejected n why) following = (r : Request) × IsPending schema (said_by end before) n r × HasReason schema top end before following packets r why
+LineIsAlone schema top end packets before (what.ResumeOk n values) following =
     (r : Request) × (request_of (sent schema (said_by end before)) n ≡ Some r) × HasReceived schema top (said_by end before) packets n r.number (answer.Ok values)
-LineIsAlone schema top end packets before (what.ResumeFault n why) behind =
+LineIsAlone schema top end packets before (what.ResumeFault n why) following =
     ((r : Request) × (request_of (sent schema (said_by end before)) n ≡ Some r) × HasReceived schema top (said_by end before) packets n r.number (answer.Fault why))
     ⊎ ((why ≡ reason.ChannelClosed) × IsTrue (has (failed (said_by end before)) n))
-LineIsAlone schema top end packets before _ behind = Unit {0}
+LineIsAlone schema top end packets before _ following = Unit {0}

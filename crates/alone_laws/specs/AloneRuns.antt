@@ -1,4 +1,4 @@
--- The runs of one end by itself.
+-- The runs of one end, whatever is delivered to it.
 use Rattle.std.specs.Prelude.{◌≡◌, ℕ, List, [], ◌∷◌, ◌++◌, Some, None}
 use Rattle.ipdl_base.specs.declared.kinds.Side.{Side}
 use Rattle.ipdl_base.specs.declared.line.Line.{Line}
@@ -11,8 +11,8 @@ use Rattle.channel_model.specs.Outputs.{Output}
 use Rattle.channel_model.specs.Refusals.{packet_refusal}
 use Rattle.channel_model.specs.Steps.{step}
 
--- An end has come so far by itself, with these lines, and these packets were delivered to it. It makes steps of its own,
--- and has packets delivered that fit the schema and that it does not refuse, whoever has sent them.
+-- A state that one end may reach, with its lines and the packets that were delivered to it. The end makes steps of
+-- its own, and receives packets that fit the schema and that it does not refuse, whoever has sent them.
 pub data RunsAlone (schema : Schema) (top : ℕ) (side : Side) : End → List Line → List Packet → Type 0 where
   begins : RunsAlone schema top side (opening_end top side) [] []
   acts : {e : End} {lines : List Line} {packets : List Packet} (own : Event) (output : Output) → RunsAlone schema top side e lines packets → step schema e [] own ≡ Some output

@@ -27,8 +27,8 @@ use Rattle.alone_laws.specs.Received.{actors_built}
 abbrev pub WasBuilt : ℕ → List What → Actor → Type 0
 WasBuilt top said a = (b : Actor) × In b (actors_built top said) × (b.id ≡ a.id) × (b.protocol ≡ a.protocol)
 
--- What an end keeps with what is read of its lines: all that is known of one end whatever comes, where what comes are
--- these packets.
+-- What an end keeps with what is read of its lines: all that is known of one end whatever comes, if these packets
+-- have come.
 pub record KeepsRead (schema : Schema) (packets : List Packet) (e : End) (own : EndReading) : Type 0 where
   pub actors : ReadsActors schema e own
   pub exchanges : ReadsExchanges schema e own
@@ -42,7 +42,8 @@ pub record KeepsRead (schema : Schema) (packets : List Packet) (e : End) (own : 
   pub delivered : own.delivered ≡ map delivered_kind packets
   pub fits : AllByRecursion (FitsPacket schema) packets
 
--- And with its lines: nothing is read of the other side, and who lives was built with its protocol.
+-- What an end keeps with its lines: nothing is read of the other side, and each living actor was built with its
+-- protocol.
 pub record KeepsAlone (schema : Schema) (top : ℕ) (side : Side) (e : End) (lines : List Line) (packets : List Packet) : Type 0 where
   pub side_is : e.side ≡ side
   pub read_is : KeepsRead schema packets e (end_reading_of side (read schema lines))

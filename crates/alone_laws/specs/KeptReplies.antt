@@ -21,7 +21,7 @@ use Rattle.channel_laws.specs.GivenAnswers.{FrameIsOwn}
 use Rattle.channel_laws.specs.Notes.{Note}
 use Rattle.alone_laws.specs.Received.{answer_to, answers_to}
 
--- what an item answers to the request of a number, and the answers to it among items
+-- what an item answers to the request of a number, and all such answers among items
 abbrev pub item_answer : ℤ → Item → Option Answer
 item_answer n (item.Message m sync level) = answer_to n (message m)
 item_answer n item.Broken = None
@@ -33,7 +33,7 @@ answers_in n items = filter_map (item_answer n) items
 abbrev pub PendingAreThere : List PromiseEntry → EndState → List Item → List Packet → Type 0
 PendingAreThere promises state items packets = (n : ℤ) → is_awaited n promises ≡ true → takes_in_state state ≡ true → answers_in n items ≡ answers_to n packets
 
--- a reply is to one of the first so many requests of a side
+-- a reply is to one of the first `count` requests of a side
 abbrev pub BodyIsKnown : Side → ℕ → ℤ → Body → Type 0
 BodyIsKnown side count n (Request vs) = Unit {0}
 BodyIsKnown side count n (Reply vs) = IsSeqOf side count n
@@ -48,7 +48,7 @@ abbrev pub ItemIsKnown : Side → ℕ → Item → Type 0
 ItemIsKnown side count (item.Message m sync level) = BodyIsKnown side count m.seq m.body
 ItemIsKnown side count item.Broken = Unit {0}
 
--- the number of a wait, if a frame is one
+-- the number of a wait, or nothing for a dispatch
 abbrev pub wait_number : StackFrame → List ℤ
 wait_number (Dispatch head) = []
 wait_number (Wait head given) = head.seq ∷ []
@@ -56,7 +56,8 @@ wait_number (Wait head given) = head.seq ∷ []
 abbrev pub wait_numbers : List StackEntry → List ℤ
 wait_numbers stack = flat_map (λ (entry : StackEntry). wait_number entry.frame) stack
 
--- no answer to a wait was delivered, or its answer is the first that was, or the fault by which it failed
+-- no answer to a wait was delivered; or the wait has the first answer that was delivered, or the fault by which it
+-- failed
 abbrev pub FrameReceives : List Packet → List ℤ → StackFrame → Type 0
 FrameReceives packets failed (Dispatch head) = Unit {0}
 FrameReceives packets failed (Wait head None) = answers_to head.seq packets ≡ []
@@ -68,8 +69,8 @@ pub record WaitsReceive (side : Side) (count : ℕ) (packets : List Packet) (fai
   pub apart : AreDistinct (wait_numbers stack)
   pub given : AllByRecursion (λ entry. FrameReceives packets failed entry.frame) stack
 
--- What an end keeps of the packets that were delivered to it, where these calls have failed and this is noted of what it
--- has sent.
+-- What an end keeps of the packets that were delivered to it, given the calls that have failed and the notes of what
+-- it has sent.
 pub record KeepsReplies (e : End) (packets : List Packet) (failed : List ℤ) (sent : List Note) : Type 0 where
   pub pending : PendingAreThere e.promises e.state e.arrived packets
   pub known : AllByRecursion (PacketIsKnown e.side e.sent) packets

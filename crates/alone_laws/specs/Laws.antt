@@ -1,4 +1,4 @@
--- What every run of one end by itself keeps.
+-- What every run of one end keeps.
 use Rattle.std.specs.Prelude.{ℕ, List}
 use Rattle.ipdl_base.specs.declared.kinds.Side.{Side}
 use Rattle.ipdl_base.specs.declared.line.Line.{Line}
@@ -15,7 +15,7 @@ abbrev pub OneEndObeysAlone : Type 0
 OneEndObeysAlone =
     (schema : Schema) → IsSound schema → (top : ℕ) (side : Side) (e : End) (lines : List Line) (packets : List Packet) → RunsAlone schema top side e lines packets → Alone schema top side lines packets
 
--- Its lines can be read and obey the law of falls.
+-- The lines of every run of one end can be read and obey the law of falls.
 abbrev pub OneEndObeysFallen : Type 0
 OneEndObeysFallen =
     (schema : Schema) → IsSound schema → (top : ℕ) (side : Side) (e : End) (lines : List Line) (packets : List Packet) → RunsAlone schema top side e lines packets → Holds law.Fallen schema lines

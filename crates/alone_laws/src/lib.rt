@@ -1,5 +1,6 @@
-//! What one end does by itself, whoever sends to it: its runs, and the law of them on its lines and
-//! on the packets that were delivered to it (docs/laws.md). No function that runs.
+//! What one end does, whoever sends to it: its runs, and the law of these runs on its lines and on the
+//! packets that
+//! were delivered to it (docs/laws.md). No function of this crate computes anything.
 #![tactic(auto)]
 
 mod laws;

@@ -9,7 +9,8 @@ use Rattle.command_words.specs.RunOptions.{IsLimit}
 use Rattle.ipdl_top.specs.declared.answer.CommandAnswer.{CommandAnswer}
 use Rattle.ipdl_top.specs.declared.rendering.Rendering.TheVariants.{Summary, Transcript}
 use Rattle.ipdl_top.specs.Audit.{SaysAuditedOf}
-use Rattle.ipdl_top.specs.CommandAnswer.{AnswersTo, IsAnswer, SaysTables, given_by, table_answer, usage_answer}
+use Rattle.ipdl_top.specs.CommandAnswer.{AnswersTo, IsAnswer, SaysTables, table_answer, usage_answer}
+use Rattle.ipdl_top.specs.CommandFiles.{given_by}
 use Rattle.ipdl_top.specs.Feed.{SaysFedOf}
 use Rattle.ipdl_top.specs.FileViews.{FileViews}
 use Rattle.ipdl_top.specs.Frames.{SaysFrames}
@@ -23,7 +24,7 @@ use Rattle.answer_existence.specs.Laws.{DrivesAll, ExactlyOneAnswer, HasBytes, R
 use Rattle.answer_existence.proofs.Compiled.{CompilationLaws, has_compilation, has_compilation_of_one}
 use Rattle.answer_existence.proofs.Said.{SayingLaws, audit_said, by_script, feed_said, frames_said, history_said, relay_said, waits_said}
 
--- the laws from which an answer comes
+-- the laws from which an answer follows
 pub record AnswerLaws : Type 0 where
   pub words : WordsAreDecided
   pub compilation : CompilationLaws
@@ -41,7 +42,7 @@ module _ (laws : AnswerLaws) (Gives : Driving) (Relays : Relaying) (seen : FileV
   abbrev Drives : List (List ℕ) → Type 0
   Drives words = (RunsFreely words → DrivesAll Gives) × (RunsQueues words → RelaysAll Relays)
 
-  -- A command that words say has an answer.
+  -- A command that words spell has an answer.
   answer_to : (said : CommandView) (words : List (List ℕ)) → Say words said → Drives words → HasAnswerTo said
   answer_to (command.compile list path names) words is drives =
       has_compilation laws.compilation SaysTables (λ schema. Unit {0}) (λ schema sound any. (table_answer (table_text schema), refl)) (given_by seen.files path names) seen.list list (λ schema read sound. tt)

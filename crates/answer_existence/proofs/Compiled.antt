@@ -1,4 +1,4 @@
--- A command that compiles files has a report on them, or on their program, or what it says of its schema.
+-- A command that compiles files has a report on them or on their program, or what it answers for its schema.
 use Rattle.std.proofs.Common.{◌≡◌, ◌≢◌, ◌⊎◌, ℕ, List, [], ◌∷◌, ◌++◌, Contains, map, length, Option, Some, None, refl, subst, inl, inr, arith, codes}
 use Rattle.std.specs.Prelude.{IsSomeAnd}
 use Rattle.findings.specs.Report.{IsReport}
@@ -16,7 +16,8 @@ use Rattle.ipdl_syntax.specs.declared.program.Entry.{Entry}
 use Rattle.ipdl_top.specs.declared.answer.CommandAnswer.{CommandAnswer}
 use Rattle.ipdl_top.specs.declared.checked.CheckResult.TheVariants.{Clean}
 use Rattle.ipdl_top.specs.declared.status.Status.TheVariants as status
-use Rattle.ipdl_top.specs.CommandAnswer.{BreaksRules, IsBrokenFile, IsCompilation, IsReading, IsSchemaRead, given_by}
+use Rattle.ipdl_top.specs.CommandAnswer.{BreaksRules, IsBrokenFile, IsCompilation, IsReading, IsSchemaRead}
+use Rattle.ipdl_top.specs.CommandFiles.{given_by}
 use Rattle.ipdl_top.specs.Lists.{AreSections, IsFaultOfList, list_names}
 use Rattle.ipdl_top.specs.Report.{broken_answer}
 use Rattle.ipdl_top.specs.Waits.{IsTop}
@@ -26,7 +27,7 @@ use Rattle.manager_rules.specs.Broken as managers
 use Rattle.message_rules.specs.Broken as messages
 use Rattle.program_schema.specs.Clean.{IsClean}
 use Rattle.program_schema.specs.Laws.{CleanIsSound}
-use Rattle.proto_rules.specs.Broken as protocols
+use Rattle.program_schema.specs.ProtocolRules as protocols
 use Rattle.report_existence.specs.Laws.{IsListed}
 use Rattle.report_existence.proofs.Finite.{contains_none, either_place, no_place}
 use Rattle.report_existence.proofs.Sorted.{report_of}
@@ -37,7 +38,7 @@ use Rattle.sync_list.specs.Broken as sync
 use Rattle.type_rules.specs.Broken as types
 use Rattle.answer_existence.proofs.Lists.{ListCase, breaks, faults_listed, list_case, spells}
 
--- the laws from which a compilation comes
+-- the laws from which a compilation follows
 pub record CompilationLaws : Type 0 where
   pub reaches : ReachesExist
   pub findings : FindingsAreListed
@@ -50,7 +51,7 @@ pub record CompilationLaws : Type 0 where
   pub schemas : CleanProgramsHaveSchemas
   pub sound : CleanIsSound
 
--- what is listed has a report that is not empty, or nothing has it
+-- what is listed has a report that is not empty, or nothing is broken
 data ReportCase (Broken : Finding → Type 0) : Type 0 where
   some : (report : List Finding) → IsReport Broken report → report ≢ [] → ReportCase Broken
   none : ((f : Finding) → Broken f → ⊥) → ReportCase Broken
@@ -65,7 +66,7 @@ report_case Broken (f ∷ fs, exact) =
     let broken : Broken f = (exact f).0 (0, omega arith, refl) in
     some r.0 r.1 (not_empty f r.0 broken r.1)
 
--- what is said of a schema that is sound
+-- the answer for a sound schema
 abbrev pub SaysSomething : (Schema → CommandAnswer → Type 0) → (Schema → Type 0) → Type 0
 SaysSomething Says Is = (schema : Schema) → IsSound schema → Is schema → (answer : CommandAnswer) × Says schema answer
 
@@ -84,11 +85,11 @@ module _ (laws : CompilationLaws) (Says : Schema → CommandAnswer → Type 0) (
       (either_place (protocols.BrokenAt program) (λ f. IsSomeAnd sections (λ ss. sync.BrokenAt program ss f))
       (either_place (managers.BrokenAt program) (messages.BrokenAt program) (laws.managers program) (laws.messages program)) (of_list program sections))
 
-  -- what is said of a schema that was read
+  -- the answer for a schema that was read
   of_schema : (schema : Schema) → IsSchemaRead given lists list schema → IsSound schema → HasCompilation
   of_schema schema read sound = let s = says schema sound (is schema read sound) in (s.0, inr (inr (record { schema = schema; read = read; says = s.1 })))
 
-  -- the report on a program, or what is said of its schema
+  -- the report on a program, or the answer for its schema
   of_program : (h : HasProgram given) (sections : Option (List Section)) → AreSections lists list sections → ReportCase (BreaksRules h.program sections) → HasCompilation
   of_program h sections are (some findings is_report some_found) =
       let report : Report = record { findings = findings; names = map (λ (e : Entry). e.name) h.program ++ list_names list } in
@@ -108,7 +109,7 @@ module _ (laws : CompilationLaws) (Says : Schema → CommandAnswer → Type 0) (
       let read : IsSchemaRead given lists list schema.0 = record { program = h.program; sections = sections; reading = record { is_program = h.is_of; whole = h.is_program; are_sections = are }; clean = clean; schema_of = schema.1 } in
       of_schema schema.0 read (laws.sound h.program schema.0 is_clean schema.1)
 
-  -- the report on the files, or what comes of their program
+  -- the report on the files, or the result for their program
   of_files : (keys : List (List ℕ)) → AreFileWords given.words → IsReach given keys → (listed : ListCase lists list (length keys)) → ReportCase (IsBrokenFile given lists list keys) → HasCompilation
   of_files keys words reach listed (some findings is_report some_found) =
       let report : Report = record { findings = findings; names = map (text_of given) keys ++ list_names list } in
@@ -126,11 +127,11 @@ module _ (laws : CompilationLaws) (Says : Schema → CommandAnswer → Type 0) (
       of_files r.0 words r.1 listed
       (report_case (IsBrokenFile given lists list r.0) (either_place (IsBroken given r.0) (IsFaultOfList lists list (length r.0)) (laws.findings given r.0) (faults_listed lists list (length r.0) listed)))
 
--- the protocol that bears the name of a file is the top
+-- the protocol with the name of a file is the top
 abbrev pub HasTop : List ℕ → Schema → Type 0
 HasTop file schema = (top : ℕ) × IsTop file schema top
 
--- A command on one file of a protocol has an answer, if something is said of each sound schema with a top.
+-- A command on one file of a protocol has an answer, if there is an answer for each sound schema with a top.
 pub has_compilation_of_one : CompilationLaws → (Says : Schema → CommandAnswer → Type 0) (files lists : FileMap) (list : Option (List ℕ)) (path : List (List ℕ)) (file front : List ℕ) → file ≡ front ++ codes ".ipdl" → SaysSomething Says (HasTop file)
     → (answer : CommandAnswer) × IsCompilation Says (given_by files path (file ∷ [])) lists list answer
 has_compilation_of_one laws Says files lists list path file front ends says =

@@ -13,7 +13,7 @@ use Rattle.sync_list.specs.declared.list.Section.{Section}
 use Rattle.ipdl_top.specs.Lists.{AreSections, IsFaultOfList, finding_at}
 use Rattle.ipdl_top.proofs.Compilations.{no_fault, one_list_fault}
 
--- what a list that is named or not is, as the file of a number: its sections, or what it breaks
+-- what a list, named or not, is as the file with a number: its sections, or what it breaks
 pub data ListCase (lists : FileMap) (list : Option (List ℕ)) (number : ℕ) : Type 0 where
   spells : (sections : Option (List Section)) → AreSections lists list sections → ((f : Finding) → IsFaultOfList lists list number f → ⊥) → ListCase lists list number
   breaks : (f : Finding) → IsFaultOfList lists list number f → ListCase lists list number

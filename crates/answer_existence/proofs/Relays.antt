@@ -6,13 +6,13 @@ use Rattle.ipdl_base.specs.declared.kinds.Side.TheVariants as sides
 use Rattle.channel_model.specs.Ends.{Packet}
 use Rattle.channel_model.specs.Events.{Event}
 use Rattle.channel_model.specs.Events as event
-use Rattle.channel_model.specs.Numbers.{other}
+use Rattle.ipdl_base.specs.Sides.{other}
 use Rattle.channel_model.specs.Outputs.{Output, is_open}
 use Rattle.channel_model.specs.Steps.{step}
 use Rattle.relay_history.specs.Laws.{RelaysComeInOrder}
-use Rattle.relay_runs.specs.HalfRuns.{HalfRun, HalfState, behind, behind_packet, delivered_for, is_within, own_event}
+use Rattle.relay_runs.specs.HalfRuns.{HalfRun, HalfState, after, after_packet, delivered_for, after_next, after_own, is_within, own_event}
 use Rattle.relay_runs.specs.RelaySteps.{IsRelay, RelayState, acts, gets, half_of, next_packet, opening_relay, stays, steps, with_half}
-use Rattle.relay_runs.specs.Relays.{IsHalfRunPair, RelayTurns, behind_next, behind_own, exceeds, goes_on, idles, leads, packet_turn, passes, relay_turn, rests, stops, turn_by}
+use Rattle.relay_runs.specs.Relays.{IsHalfRunPair, RelayTurns, exceeds, goes_on, idles, leads, packet_turn, passes, relay_turn, rests, stops, turn_by}
 use Rattle.run_existence.specs.Laws.{IsRunnable}
 use Rattle.script_steps.specs.Choices.{Setting}
 use Rattle.script_steps.specs.Progress.{progress_of}
@@ -29,17 +29,17 @@ events_of side state = (progress_of side (half_of side state).lines).events
 abbrev events : RelayState → ℕ
 events state = events_of sides.Parent state + events_of sides.Child state
 
--- a step of a side that is possible gives something
+-- a possible step of a side gives a result
 given_some : (found : Option Output) → is_some found ≡ true → (output : Output) × (found ≡ Some output)
 given_some None some = cc
 given_some (Some output) some = (output, refl)
 
--- one event more of a side is one more of both
+-- one more event of a side is one more event of both
 one_more : (side : Side) (state : RelayState) (half : HalfState) → (progress_of side half.lines).events ≡ events_of side state + 1 → events (with_half side half state) ≡ suc (events state)
 one_more sides.Parent state half more = omega (arith, more)
 one_more sides.Child state half more = omega (arith, more)
 
--- what a turn does: it leads on by one event, or does nothing
+-- what a turn does: it makes one event, or does nothing
 data TurnCase (setting : Setting) (side : Side) (state : RelayState) : Type 0 where
   goes : (next : RelayState) → relay_turn setting side state ≡ leads next → IsRelay setting next → events next ≡ suc (events state) → TurnCase setting side state
   waits : relay_turn setting side state ≡ idles → TurnCase setting side state
@@ -67,33 +67,33 @@ module _ (in_order : RelaysComeInOrder) (setting : Setting) (is : IsRunnable set
     half = half_of side state
 
     own_turn : (own : Event) → own_event setting side half ≡ Some own → (w : Bool) → is_within setting side half ≡ w → TurnCase setting side state
-    own_turn own e false w = fails (ap (turn_by setting side state) e ∙ ap (λ (b : Bool). if b then leads (with_half side (behind_own setting half own) state) else exceeds) w)
+    own_turn own e false w = fails (ap (turn_by setting side state) e ∙ ap (λ (b : Bool). if b then leads (with_half side (after_own setting half own) state) else exceeds) w)
     own_turn own e true w =
         let k = keeps side state relay in
         let made = given_some (step setting.schema half.end [] own) (own-possible setting side is.sound is.valid is.limit half.end half.lines half.delivered k own e) in
-        let behind_is : behind_own setting half own ≡ behind half made.0 = ap (λ found. option_map_or (behind half) found half) made.1 in
+        let after_is : after_own setting half own ≡ after half made.0 = ap (λ found. option_map_or (after half) found half) made.1 in
         let printed = step-prints setting.schema half.end [] own made.0 made.1 in
-        goes (with_half side (behind half made.0) state)
-        (ap (turn_by setting side state) e ∙ ap (λ (b : Bool). if b then leads (with_half side (behind_own setting half own) state) else exceeds) w ∙ ap (λ (h : HalfState). leads (with_half side h state)) behind_is)
-        (steps side state (with_half side (behind half made.0) state) relay (acts own made.0 w e made.1))
-        (one_more side state (behind half made.0) (grown setting side is.sound is.valid is.limit half.end half.lines half.delivered k own [] made.0 made.1 printed))
+        goes (with_half side (after half made.0) state)
+        (ap (turn_by setting side state) e ∙ ap (λ (b : Bool). if b then leads (with_half side (after_own setting half own) state) else exceeds) w ∙ ap (λ (h : HalfState). leads (with_half side h state)) after_is)
+        (steps side state (with_half side (after half made.0) state) relay (acts own made.0 w e made.1))
+        (one_more side state (after half made.0) (grown setting side is.sound is.valid is.limit half.end half.lines half.delivered k own [] made.0 made.1 printed))
 
     packet_case : own_event setting side half ≡ None → is_open half.end.state ≡ true → (packet : Packet) → next_packet side state ≡ Some packet → (w : Bool) → is_within setting side half ≡ w → TurnCase setting side state
     packet_case none opened packet e false w =
         fails
         (ap (turn_by setting side state) none ∙ ap (λ (b : Bool). if b then packet_turn setting side state (next_packet side state) else idles) opened ∙ ap (packet_turn setting side state) e
-        ∙ ap (λ (b : Bool). if b then leads (with_half side (behind_next setting half packet) state) else exceeds) w)
+        ∙ ap (λ (b : Bool). if b then leads (with_half side (after_next setting half packet) state) else exceeds) w)
     packet_case none opened packet e true w =
         let k = keeps side state relay in
         let given : Packet = delivered_for setting.schema half.end packet in
         let made = given_some (step setting.schema half.end (given ∷ []) event.deliver) (delivery-possible setting side is.sound is.valid is.limit half.end half.lines half.delivered k given opened) in
-        let behind_is : behind_next setting half packet ≡ behind_packet half packet given made.0 = ap (λ found. option_map_or (behind_packet half packet given) found half) made.1 in
+        let after_is : after_next setting half packet ≡ after_packet half packet given made.0 = ap (λ found. option_map_or (after_packet half packet given) found half) made.1 in
         let printed = step-prints setting.schema half.end (given ∷ []) event.deliver made.0 made.1 in
-        goes (with_half side (behind_packet half packet given made.0) state)
+        goes (with_half side (after_packet half packet given made.0) state)
         (ap (turn_by setting side state) none ∙ ap (λ (b : Bool). if b then packet_turn setting side state (next_packet side state) else idles) opened ∙ ap (packet_turn setting side state) e
-        ∙ ap (λ (b : Bool). if b then leads (with_half side (behind_next setting half packet) state) else exceeds) w ∙ ap (λ (h : HalfState). leads (with_half side h state)) behind_is)
-        (steps side state (with_half side (behind_packet half packet given made.0) state) relay (gets packet made.0 w none opened e made.1))
-        (one_more side state (behind_packet half packet given made.0) (grown setting side is.sound is.valid is.limit half.end half.lines half.delivered k event.deliver (given ∷ []) made.0 made.1 printed))
+        ∙ ap (λ (b : Bool). if b then leads (with_half side (after_next setting half packet) state) else exceeds) w ∙ ap (λ (h : HalfState). leads (with_half side h state)) after_is)
+        (steps side state (with_half side (after_packet half packet given made.0) state) relay (gets packet made.0 w none opened e made.1))
+        (one_more side state (after_packet half packet given made.0) (grown setting side is.sound is.valid is.limit half.end half.lines half.delivered k event.deliver (given ∷ []) made.0 made.1 printed))
 
     next_case : own_event setting side half ≡ None → is_open half.end.state ≡ true → (found : Option Packet) → next_packet side state ≡ found → TurnCase setting side state
     next_case none opened None e =

@@ -1,10 +1,9 @@
--- What each command says of a sound schema is there.
+-- Each command has an answer for a sound schema.
 use Rattle.std.proofs.Common.{◌≡◌, ◌⊎◌, ℕ, ◌<◌, ◌≤◌, ◌+◌, Bool, List, [], ◌∷◌, length, Option, Some, None, refl, sym, subst, inl, inr, ⊎_elim, arith}
 use Rattle.std.proofs.lemmas.Bool.{cases_lt}
 use Rattle.command_words.specs.Feed.{FeedCourse}
 use Rattle.command_words.specs.Relay.{RelayCourse}
 use Rattle.command_words.specs.Run.{Course}
-use Rattle.feed_laws.specs.Laws.{FeedsObeyAlone, FeedsRunAlone}
 use Rattle.feed_runs.specs.FeedTurns.{Feed}
 use Rattle.handler_script.proofs.Validity.{script_valid}
 use Rattle.handler_script.specs.Valid.{IsValid}
@@ -15,19 +14,21 @@ use Rattle.ipdl_base.specs.declared.files.TheConstants.{MOST_BYTES}
 use Rattle.ipdl_base.specs.declared.finding.Report.{Report}
 use Rattle.ipdl_base.specs.declared.schema.Schema.{Schema}
 use Rattle.ipdl_top.specs.declared.answer.CommandAnswer.{CommandAnswer}
-use Rattle.ipdl_top.specs.declared.audited.Audit.{Audit}
-use Rattle.ipdl_top.specs.declared.audited.Audit.TheVariants as audit
+use Rattle.ipdl_top.specs.declared.audit.outcome.Audit.{Audit}
+use Rattle.ipdl_top.specs.declared.audit.outcome.Audit.TheVariants as audit
 use Rattle.ipdl_top.specs.declared.rendering.Rendering.{Rendering}
 use Rattle.ipdl_top.specs.declared.status.Status.TheVariants as status
-use Rattle.ipdl_top.specs.Audit.{SaysAuditedOf, absent_text_answer, audit_answer, larger_text_answer}
+use Rattle.ipdl_top.specs.Audit.{SaysAudited, SaysAuditedOf, audit_answer}
 use Rattle.ipdl_top.specs.Audited.{IsAudited, audited_setting}
 use Rattle.ipdl_top.specs.Feed.{SaysFed, SaysFedOf, feed_answer, feed_setting}
-use Rattle.ipdl_top.specs.Frames.{SaysFrames, absent_answer, frames_answer, frames_out, larger_answer}
-use Rattle.ipdl_top.specs.Relay.{Relaying, SaysRelayed, halves_text, relay_answer, relay_setting}
+use Rattle.ipdl_top.specs.Ended.{answer_of, ended_answer}
+use Rattle.ipdl_top.specs.Frames.{SaysBytes, SaysFrames, frames_answer, frames_out}
+use Rattle.ipdl_top.specs.Inputs.{SaysByFile, absent_answer, larger_answer}
+use Rattle.ipdl_top.specs.Relay.{Relaying, SaysRelayed, halves_text, relay_setting}
 use Rattle.ipdl_top.specs.Report.{broken_answer}
-use Rattle.ipdl_top.specs.Run.{Driving, SaysHistory, answer_of, run_answer, setting_by}
+use Rattle.ipdl_top.specs.Run.{Driving, SaysHistory, run_answer, setting_by}
 use Rattle.ipdl_top.specs.RunSteps.{IsMadeUnless}
-use Rattle.ipdl_top.specs.Scripts.{SaysByScript, SaysOfHeld, unreadable_answer}
+use Rattle.ipdl_top.specs.Scripts.{SaysByScript, SaysOfHeld, SaysOfText, unreadable_answer}
 use Rattle.ipdl_top.specs.Waits.{SaysWaits, waits_text}
 use Rattle.ipdl_top.proofs.Relays.{RelayedLaws, says_relayed}
 use Rattle.ipdl_top.proofs.Feeds.{owed_so}
@@ -36,6 +37,7 @@ use Rattle.law_statements.specs.Laws.{DecidesFallen, DecidesReadable, LawsWantRe
 use Rattle.progress_laws.specs.Progress.{HistoriesAreWeighed}
 use Rattle.progress_laws.specs.Rest.{StillWorldsRest}
 use Rattle.relay_history.specs.SidesAlone.{SidesObeyAlone}
+use Rattle.relay_laws.specs.Laws.{FeedsObeyAlone, FeedsRunAlone}
 use Rattle.run_existence.specs.Laws.{BytesHaveFrames, IsDecidedText, IsRunnable, TextsAreDecided, WaitReportsExist, WordsHaveRuns}
 use Rattle.schedules.specs.declared.turn.Turn.{Turn}
 use Rattle.script_existence.specs.Laws.{ScriptsExist}
@@ -43,9 +45,9 @@ use Rattle.script_runs.specs.Laws.{RestOfCasesIsStill}
 use Rattle.script_steps.specs.Choices.{Setting}
 use Rattle.script_steps.specs.Laws.{ChoicesAreRuns}
 use Rattle.script_steps.specs.Turns.{RunEnding, at_limit, at_rest}
-use Rattle.transcript_laws.specs.TextLines.{text_lines}
+use Rattle.transcripts.specs.TextLines.{text_lines}
 use Rattle.script_transcripts.specs.Legal.{AreLegalSoFar, IsLegalText}
-use Rattle.transcript_reader.specs.Compared.{events_in, most_text_bytes}
+use Rattle.transcripts.specs.Compared.{events_in, most_text_bytes}
 use Rattle.value_codec.specs.Laws.{AreBytes}
 use Rattle.world_core.specs.FeedLaws.{FeedsComeToAnEnd}
 use Rattle.world_core.specs.declared.relay.Halves.{Halves}
@@ -53,12 +55,12 @@ use Rattle.world_core.specs.Relaying.{RelayGives}
 use Rattle.world_core.specs.Turns.{WordGives}
 use Rattle.world_core.specs.WorldView.{WorldView, opening_of}
 use Rattle.order_statements.specs.Laws.{HistoriesGiveWhatIsOwed, HistoriesKeepOrder, OneEndHasEffects}
-use Rattle.world_laws.specs.Statements.{HistoriesAreLawful}
+use Rattle.order_statements.specs.Lawful.{HistoriesAreLawful}
 use Rattle.answer_existence.specs.Laws.{DrivesAll, HasDriven, HasRelayed, RelaysAll}
 use Rattle.answer_existence.proofs.Compiled.{HasTop, SaysSomething}
 use Rattle.answer_existence.proofs.Words.{words_drive_all}
 
--- the laws from which it comes
+-- the laws from which it follows
 pub record SayingLaws : Type 0 where
   pub scripts : ScriptsExist
   pub frames : BytesHaveFrames
@@ -82,17 +84,25 @@ pub record SayingLaws : Type 0 where
   pub sides : SidesObeyAlone
   pub relayed : RelayedLaws
 
--- Frames
+-- Files
+
+-- A file has an answer, if something is said of its bytes.
+file_said : (absent larger : CommandAnswer) (most : ℕ) (Says : List ℕ → CommandAnswer → Type 0) (file : Option (List ℕ)) → ((bytes : List ℕ) → file ≡ Some bytes → length bytes ≤ most → (answer : CommandAnswer) × Says bytes answer)
+    → (answer : CommandAnswer) × SaysByFile absent larger most Says file answer
+file_said absent larger most Says None says = (absent, refl)
+file_said absent larger most Says (Some bytes) says =
+    ⊎_elim (λ (large : most < length bytes). (larger, inl (large, refl)))
+    (λ (small : length bytes ≤ most). let s = says bytes refl small in (s.0, inr (small, s.1))) (cases_lt most (length bytes))
 
 module _ (laws : SayingLaws) where
-  pub frames_said : (name : List ℕ) (convert : Bool) (held : Option (List ℕ)) → ((bytes : List ℕ) → held ≡ Some bytes → AreBytes bytes) → SaysSomething (SaysFrames name convert held) (λ schema. Unit {0})
-  frames_said name convert None are schema sound is = (absent_answer name, refl)
-  frames_said name convert (Some bytes) are schema sound is =
-      ⊎_elim (λ (large : MOST_BYTES < length bytes). (larger_answer name, inl (large, refl)))
-      (λ (small : length bytes ≤ MOST_BYTES).
-      let f = laws.frames schema sound 0 bytes (are bytes refl) in
-      (frames_answer name (frames_out convert schema f.0) f.1, inr (small, record { sound = sound; are_bytes = are bytes refl; frames = f.0; fault = f.1; holds = f.2; says = refl })))
-      (cases_lt MOST_BYTES (length bytes))
+  -- Frames
+
+  pub frames_said : (name : List ℕ) (convert : Bool) (file : Option (List ℕ)) → ((bytes : List ℕ) → file ≡ Some bytes → AreBytes bytes) → SaysSomething (SaysFrames name convert file) (λ schema. Unit {0})
+  frames_said name convert file are schema sound is =
+      file_said (absent_answer status.BadFrames name) (larger_answer status.BadFrames name) MOST_BYTES (λ bytes. SaysBytes name convert bytes schema) file
+      (λ bytes there small.
+      let f = laws.frames schema sound 0 bytes (are bytes there) in
+      (frames_answer name (frames_out convert schema f.0) f.1, record { sound = sound; are_bytes = are bytes there; frames = f.0; fault = f.1; holds = f.2; says = refl }))
 
   -- Waits
 
@@ -103,28 +113,26 @@ module _ (laws : SayingLaws) where
 
   -- Scripts
 
-  -- what is said of a valid script
+  -- the answer for a valid script
   abbrev SaysOfScripts : Schema → (Script → CommandAnswer → Type 0) → Type 0
   SaysOfScripts schema Says = (script : Script) → IsValid schema script → (answer : CommandAnswer) × Says script answer
 
   of_text : (Says : Script → CommandAnswer → Type 0) (name text : List ℕ) (schema : Schema) (top : ℕ) → length text ≤ MOST_BYTES → IsSound schema → top < length schema.protocols → SaysOfScripts schema Says
-      → (answer : CommandAnswer) × SaysOfHeld Says name (Some text) schema top answer
+      → (answer : CommandAnswer) × SaysOfText Says name text schema top answer
   of_text Says name text schema top small sound there says =
       ⊎_elim
       (λ script.
       let s = says script.0 (script_valid text schema top script.0 small sound there script.1) in
-      (s.0, inr (small, inr (record { script = script.0; script_of = script.1; says = s.1 }))))
+      (s.0, inr (record { script = script.0; script_of = script.1; says = s.1 })))
       (λ broken.
       let report : Report = record { findings = broken.0; names = name ∷ [] } in
-      (broken_answer status.BadScript report, inr (small, inl (record { report = report; holds = record { is_report = broken.1; some = broken.2; called = refl }; says = refl }))))
+      (broken_answer status.BadScript report, inl (record { report = report; holds = record { is_report = broken.1; some = broken.2; called = refl }; says = refl })))
       (laws.scripts text schema top)
 
-  of_held : (Says : Script → CommandAnswer → Type 0) (name : List ℕ) (held : Option (List ℕ)) (schema : Schema) (top : ℕ) → IsSound schema → top < length schema.protocols → SaysOfScripts schema Says
-      → (answer : CommandAnswer) × SaysOfHeld Says name held schema top answer
-  of_held Says name None schema top sound there says = (unreadable_answer name, refl)
-  of_held Says name (Some text) schema top sound there says =
-      ⊎_elim (λ (large : MOST_BYTES < length text). (unreadable_answer name, inl (large, refl)))
-      (λ (small : length text ≤ MOST_BYTES). of_text Says name text schema top small sound there says) (cases_lt MOST_BYTES (length text))
+  of_held : (Says : Script → CommandAnswer → Type 0) (name : List ℕ) (text : Option (List ℕ)) (schema : Schema) (top : ℕ) → IsSound schema → top < length schema.protocols → SaysOfScripts schema Says
+      → (answer : CommandAnswer) × SaysOfHeld Says name text schema top answer
+  of_held Says name text schema top sound there says =
+      file_said (unreadable_answer name) (unreadable_answer name) MOST_BYTES (λ text. SaysOfText Says name text schema top) text (λ text is small. of_text Says name text schema top small sound there says)
 
   pub by_script : (Says : Schema → Script → CommandAnswer → Type 0) (name : List ℕ) (held : Option (List ℕ)) (file : List ℕ) → ((schema : Schema) → IsSound schema → SaysOfScripts schema (Says schema))
       → SaysSomething (λ schema. SaysByScript (Says schema) name held file schema) (HasTop file)
@@ -133,7 +141,7 @@ module _ (laws : SayingLaws) where
 
   -- Runs
 
-  -- what a driver gives it gives unless memory runs out
+  -- what a driver gives, it gives unless memory runs out
   made_unless : (Gives : Driving) (before after : WorldView) (ending : RunEnding) → Gives before after (answer_of ending) → IsMadeUnless Gives None before after (answer_of ending)
   made_unless Gives before after at_rest gives = gives
   made_unless Gives before after (at_limit side) gives = gives
@@ -169,31 +177,30 @@ module _ (laws : SayingLaws) where
     fed_said : (name bytes : List ℕ) → AreBytes bytes → (schema : Schema) → IsSound schema → SaysOfScripts schema (SaysFed course name bytes schema)
     fed_said name bytes are schema sound script valid =
         let setting = feed_setting schema script course in
-        let f = laws.feeds setting bytes sound valid (omega (arith, few)) are in
+        let f = laws.feeds setting course.side bytes sound valid (omega (arith, few)) are in
         let last = f.0 in
-        let feed : Feed setting bytes last.lines last.packets last.fault f.1 = record { last = last; feeds = f.2; lines_are = refl; packets_are = refl; fault_is = refl } in
-        let obeyed = laws.fed_alone setting bytes last.lines last.packets last.fault f.1 sound are feed in
-        let readable = laws.want law.Fallen schema last.lines obeyed.1 in (
-          feed_answer schema name course.side last.lines last.fault f.1,
+        let feed : Feed setting course.side bytes last.half.lines last.half.delivered last.fault f.1 = record { last = last; feeds = f.2; lines_are = refl; packets_are = refl; fault_is = refl } in
+        let obeyed = laws.fed_alone setting course.side bytes last.half.lines last.half.delivered last.fault f.1 sound are feed in
+        let readable = laws.want law.Fallen schema last.half.lines obeyed.1 in (
+          feed_answer schema name course.side last.half.lines last.fault f.1,
           record {
-            lines = last.lines;
-            packets = last.packets;
+            lines = last.half.lines;
+            packets = last.half.delivered;
             kept = last.fault;
             spent = f.1;
             feed = feed;
             readable = readable;
             alone = obeyed.0;
-            fallen = (laws.decides_fallen schema last.lines ((laws.decides_readable schema last.lines).1 readable)).0 obeyed.1;
-            owed = owed_so laws.fed_runs laws.effects setting bytes last.lines last.packets last.fault f.1 sound are feed;
+            fallen = (laws.decides_fallen schema last.half.lines ((laws.decides_readable schema last.half.lines).1 readable)).0 obeyed.1;
+            owed = owed_so laws.fed_runs laws.effects setting course.side bytes last.half.lines last.half.delivered last.fault f.1 sound are feed;
             says = refl;
           },
         )
 
     pub feed_said : (name : List ℕ) (held : Option (List ℕ)) → ((bytes : List ℕ) → held ≡ Some bytes → AreBytes bytes) → (schema : Schema) → IsSound schema → SaysOfScripts schema (SaysFedOf course name held schema)
-    feed_said name None are schema sound script valid = (absent_answer name, refl)
-    feed_said name (Some bytes) are schema sound script valid =
-        ⊎_elim (λ (large : MOST_BYTES < length bytes). (larger_answer name, inl (large, refl)))
-        (λ (small : length bytes ≤ MOST_BYTES). let s = fed_said name bytes (are bytes refl) schema sound script valid in (s.0, inr (small, s.1))) (cases_lt MOST_BYTES (length bytes))
+    feed_said name file are schema sound script valid =
+        file_said (absent_answer status.BadFrames name) (larger_answer status.BadFrames name) MOST_BYTES (λ bytes. SaysFed course name bytes schema script) file
+        (λ bytes there small. fed_said name bytes (are bytes there) schema sound script valid)
 
   -- Audits
 
@@ -213,14 +220,12 @@ module _ (laws : SayingLaws) where
         by (inr none) = by_count none (cases_lt d.count (length (text_lines text)))
 
     pub audit_said : (name : List ℕ) (held : Option (List ℕ)) → (schema : Schema) → IsSound schema → SaysOfScripts schema (SaysAuditedOf limit name held schema)
-    audit_said name None schema sound script valid = (absent_text_answer name, refl)
-    audit_said name (Some text) schema sound script valid =
-        ⊎_elim (λ (large : most_text_bytes < length text). (larger_text_answer name, inl (large, refl)))
-        (λ (small : length text ≤ most_text_bytes).
+    audit_said name file schema sound script valid =
+        file_said (absent_answer status.BadTranscript name) (larger_answer status.BadTranscript name) most_text_bytes (λ text. SaysAudited limit name text schema script) file
+        (λ text there small.
         let setting = audited_setting schema script limit in
         let found = audited setting text (laws.texts setting (record { sound = sound; valid = valid; limit = omega (arith, few) }) text) in
-        (audit_answer name found.0, inr (small, record { sound = sound; valid = valid; found = found.0; audited = found.1; says = refl })))
-        (cases_lt most_text_bytes (length text))
+        (audit_answer name found.0, record { sound = sound; valid = valid; found = found.0; audited = found.1; says = refl }))
 
   -- Relays
 
@@ -228,7 +233,7 @@ module _ (laws : SayingLaws) where
   relay_said Relays course few relays schema sound script valid =
       let setting = relay_setting schema script course in
       let r : HasRelayed Relays setting = relays setting (record { sound = sound; valid = valid; limit = omega (arith, few) }) in
-      let answer : CommandAnswer = relay_answer (halves_text schema r.halves) r.ending in
+      let answer : CommandAnswer = ended_answer (halves_text schema r.halves) r.ending in
       (answer, says_relayed laws.relayed Relays course schema script (opening_of setting) r.halves (answer_of r.ending) answer sound few refl (relay_gives Relays (opening_of setting) r.halves r.ending r.gives) r.relayed (record { ending = r.ending; ends = refl; says = refl }))
     where
       relay_gives : (Relays : Relaying) (before : WorldView) (halves : Halves) (ending : RunEnding) → Relays before halves (answer_of ending) → RelayGives Relays before halves (answer_of ending)

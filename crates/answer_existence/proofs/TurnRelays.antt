@@ -1,9 +1,9 @@
--- The turns of both sides are a relay that gives something of every setting.
+-- The turns of both sides are a relay that gives a result for every setting.
 use Rattle.std.proofs.Common.{List, map, refl, sym, subst}
 use Rattle.ipdl_base.specs.declared.kinds.Side.TheVariants as sides
 use Rattle.ipdl_base.specs.declared.line.Line.{Line}
 use Rattle.end_parts.specs.PlainLines.{plain_line}
-use Rattle.ipdl_top.specs.Run.{answer_of}
+use Rattle.ipdl_top.specs.Ended.{answer_of}
 use Rattle.plain_runs.specs.Laws.{RelayLinesArePlain}
 use Rattle.plain_runs.specs.PlainEnds.{ArePlainLines}
 use Rattle.relay_runs.specs.Laws.{TurnsAreRelays}
@@ -19,7 +19,7 @@ use Rattle.answer_existence.specs.Laws.{RelaysEnd, TurnsRelayAll}
 abbrev halves_of : List Line → List Line → Halves
 halves_of parent child = record { parent = record { lines = parent; spare = 0 }; child = record { lines = child; spare = 0 } }
 
--- what holds of plain lines and an ending holds of the halves with these lines
+-- what is true of plain lines and an ending is true of the halves with these lines
 ended_so : (Ends : List Line → List Line → RunEnding → Type 0) (parent child : List Line) (ending : RunEnding) → ArePlainLines parent → ArePlainLines child → Ends parent child ending → EndedIn Ends (halves_of parent child) (answer_of ending)
 ended_so Ends parent child at_rest p q h = subst (λ (ls : List Line). Ends ls (map plain_line child) at_rest) (sym p) (subst (λ (ls : List Line). Ends parent ls at_rest) (sym q) h)
 ended_so Ends parent child (at_limit side) p q h =

@@ -1,7 +1,7 @@
--- A word of turns gives a run of every setting.
+-- A word of turns gives a run for every setting.
 use Rattle.std.proofs.Common.{◌≡◌, List, Some, refl}
 use Rattle.channel_model.specs.Runs.{RunState}
-use Rattle.ipdl_top.specs.Run.{answer_of}
+use Rattle.ipdl_top.specs.Ended.{answer_of}
 use Rattle.run_existence.specs.Laws.{HasRun, IsRunnable, WordsHaveRuns}
 use Rattle.schedules.specs.declared.turn.Turn.{Turn}
 use Rattle.script_runs.specs.Endings.{EndsAs}

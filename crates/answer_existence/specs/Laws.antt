@@ -1,4 +1,4 @@
--- What there is an answer to: all words that are texts, for all files.
+-- What has an answer: all words that are texts, for all files.
 use Rattle.std.specs.Prelude.{◌≡◌, ℕ, List, Option, None, Some}
 use Rattle.std.specs.List.{AllByRecursion}
 use Rattle.std.specs.Str.{IsUtf8}
@@ -11,7 +11,8 @@ use Rattle.ipdl_top.specs.CommandAnswer.{IsAnswer}
 use Rattle.ipdl_top.specs.FileViews.{FileViews}
 use Rattle.ipdl_top.specs.Laws.{LeavesNothing}
 use Rattle.ipdl_top.specs.Relay.{Relaying}
-use Rattle.ipdl_top.specs.Run.{Driving, answer_of}
+use Rattle.ipdl_top.specs.Ended.{answer_of}
+use Rattle.ipdl_top.specs.Run.{Driving}
 use Rattle.relay_runs.specs.Relays.{RelayedByTurns}
 use Rattle.run_existence.specs.Laws.{IsRunnable}
 use Rattle.schedules.specs.declared.turn.Turn.{Turn}
@@ -32,7 +33,7 @@ RelaysEnd = (setting : Setting) → IsRunnable setting → (parent : List Line) 
 
 -- Drivers
 
--- what a driver gives of a run: where it ended and how, by choices of the run
+-- what a driver gives for a run: where it ended and how, by choices of the run
 pub record HasDriven (Gives : Driving) (setting : Setting) : Type 0 where
   pub after : WorldView
   pub ending : RunEnding
@@ -41,7 +42,7 @@ pub record HasDriven (Gives : Driving) (setting : Setting) : Type 0 where
   pub stands : StandsAs after (answer_of ending)
   pub case : IsCase after
 
--- a driver gives a run of every setting
+-- a driver gives a run for every setting
 abbrev pub DrivesAll : Driving → Type 0
 DrivesAll Gives = (setting : Setting) → IsRunnable setting → HasDriven Gives setting
 
@@ -52,21 +53,21 @@ pub record HasRelayed (Relays : Relaying) (setting : Setting) : Type 0 where
   pub gives : Relays (opening_of setting) halves (answer_of ending)
   pub relayed : IsRelayed setting halves (answer_of ending)
 
--- it gives so of every setting
+-- a relay gives these for every setting
 abbrev pub RelaysAll : Relaying → Type 0
 RelaysAll Relays = (setting : Setting) → IsRunnable setting → HasRelayed Relays setting
 
--- The turns of both sides are a relay that gives so of every setting.
+-- The turns of both sides are a relay that gives these for every setting.
 abbrev pub TurnsRelayAll : Type 0
 TurnsRelayAll = RelaysAll (λ before halves ended. IsRelayedByTurns before.setting halves ended)
 
--- The turns of any word are a driver that gives a run of every setting.
+-- The turns of any word are a driver that gives a run for every setting.
 abbrev pub WordsDriveAll : Type 0
 WordsDriveAll = (word : List Turn) → DrivesAll (λ before after ended. WordGives before word ended after)
 
 -- Answers
 
--- where a file of the map is there, it has bytes
+-- each file of the map that exists has bytes
 abbrev pub HasBytes : FileMap → Type 0
 HasBytes files = (name bytes : List ℕ) → files name ≡ Some bytes → AreBytes bytes
 
@@ -89,14 +90,14 @@ pub record RunsQueues (words : List (List ℕ)) : Type 0 where
   pub file : List ℕ
   pub is_relay : IsRelay words list path course script file
 
--- The words have an answer, and no other unless they leave it to a driver.
+-- The words have an answer, and only one unless they leave it to a driver.
 pub record HasOneAnswer (Gives : Driving) (Relays : Relaying) (seen : FileViews) (words : List (List ℕ)) : Type 0 where
   pub answer : CommandAnswer
   pub is : IsAnswer Gives Relays seen words answer
   pub only : LeavesNothing words answer → (other : CommandAnswer) → IsAnswer Gives Relays seen words other → answer ≡ other
 
--- All words that are texts have exactly one answer, whatever the files are: where they run a script without a word of turns,
--- or over two queues, if the driver or the relay gives something of every setting.
+-- All words that are texts have exactly one answer, whatever the files are: if they run a script without a word of turns,
+-- or over two queues, this needs a driver or a relay that gives a result for every setting.
 abbrev pub ExactlyOneAnswer : Driving → Relaying → Type 0
 ExactlyOneAnswer Gives Relays =
     (seen : FileViews) (words : List (List ℕ)) → AllByRecursion IsUtf8 words → HasBytes seen.input → (RunsFreely words → DrivesAll Gives) → (RunsQueues words → RelaysAll Relays) → HasOneAnswer Gives Relays seen words

@@ -1,22 +1,23 @@
-//! The laws that words have exactly one answer, that turns of both sides bring every relay to an end and are a
-//! relay themselves, and that words of turns drive every run.
+//! The laws that words have exactly one answer, that turns of both sides bring every relay to an end
+//! and are a relay themselves, and that words of turns drive every run.
 
 ghost use Rattle.answer_existence.specs.Laws.{ExactlyOneAnswer, RelaysEnd, TurnsRelayAll, WordsDriveAll};
 
 use command_existence::words_are_decided;
-use feed_laws::{feeds_obey_alone, feeds_run_alone};
 use file_existence::{clean_files_have_programs, findings_are_listed, reaches_exist};
 use ipdl_top::answer_is_determined;
 use law_statements::{decides_fallen, decides_readable, laws_want_readable_lines};
 use list_existence::lists_have_answers;
-use order_statements::{histories_give_what_they_owe, histories_keep_order, one_end_has_effects};
+use order_statements::{
+    histories_are_lawful, histories_give_what_they_owe, histories_keep_order, one_end_has_effects,
+};
 use plain_runs::relay_lines_are_plain;
 use program_schema::clean_is_sound;
 use progress_laws::{histories_are_weighed, still_worlds_rest};
 use relay_history::{
     finished_relays_wait_for_nothing, relays_are_histories, relays_come_in_order, sides_obey_alone,
 };
-use relay_laws::relays_obey_alone;
+use relay_laws::{feeds_obey_alone, feeds_run_alone, relays_obey_alone};
 use relay_runs::turns_are_relays;
 use rule_existence::{
     list_findings_are_listed, manager_findings_are_listed, message_findings_are_listed,
@@ -28,7 +29,6 @@ use script_existence::scripts_exist;
 use script_runs::rest_of_cases_is_still;
 use script_steps::choices_are_runs;
 use world_core::{Driver, Relay, feeds_come_to_an_end};
-use world_laws::histories_are_lawful;
 
 /// The law of relays in turns: each comes to an end.
 pub fn relays_end()
@@ -37,8 +37,8 @@ pub fn relays_end()
     relays_come_in_order();
 }
 
-/// The law of turns as a relay: the turns of both sides give something of every setting, with every box of the
-/// lines at one place.
+/// The law of turns as a relay: the turns of both sides give a result for every setting, with every box
+/// of the lines at one place.
 pub fn turns_relay_all()
     ensures { TurnsRelayAll }
 {
@@ -47,7 +47,7 @@ pub fn turns_relay_all()
     relay_lines_are_plain();
 }
 
-/// The law of words as drivers: the turns of any word give a run of every setting.
+/// The law of words as drivers: the turns of any word give a run for every setting.
 pub fn words_drive_all()
     ensures { WordsDriveAll }
 {
@@ -55,10 +55,10 @@ pub fn words_drive_all()
     rest_of_cases_is_still();
 }
 
-/// The law of the one answer: whatever the files are, all words that are texts have exactly one answer. Two
-/// kinds of words leave part of it open: where they run a script without a word of turns, the answer is
-/// what the driver gives, and there is one if it gives something; and so it is with a relay, which has one
-/// answer where no side is spent.
+/// The law of the one answer: whatever the files are, all words that are texts have exactly one answer.
+/// Two kinds of words leave part of it open. If they run a script without a word of turns, the answer
+/// is what the driver gives, and there is one if the driver gives a run. The same is true of a relay,
+/// which has one answer if no side is spent.
 pub fn one_answer<D: Driver, Q: Relay>(driver: &D, relay: &Q)
     ensures { ExactlyOneAnswer (D.Gives driver.now) (Q.Gives relay.now) }
 {

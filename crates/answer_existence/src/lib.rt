@@ -1,5 +1,5 @@
-//! The law that words have exactly one answer, and what drives a run or a relay to its end. No function that
-//! runs.
+//! The law that words have exactly one answer, and what drives a run or a relay to its end. No function
+//! here runs.
 #![tactic(auto)]
 
 mod laws;

@@ -1,4 +1,4 @@
--- Lists and options whose elements look alike: what holds of one holds of the other, where the looks decide it.
+-- Lists and options whose elements look alike: a property that the looks decide passes from one to the other.
 use Rattle.std.proofs.Common.{◌≡◌, ◌∙◌, ℕ, zero, suc, ◌+◌, List, [], ◌∷◌, ◌++◌, Option, Some, None, IsSomeAnd, slice_get, map, refl, sym, ap}
 use Rattle.std.specs.Prelude.{option_map, IsSome}
 use Rattle.std.specs.List.{AllZip, Any, Contains, flat_map}
@@ -8,7 +8,7 @@ use Rattle.program_schema.specs.SchemaOf.{AreRows}
 use Rattle.program_schema.proofs.Lists.{place_in, in_place, any_place, any_at, alike_at}
 
 module _ {X Z : Type 0} (look : X → Z) where
-  -- What holds of one that looks alike
+  -- A property of an element that looks alike
 
   pub any_alike : (P Q : X → Type 0) → ((x y : X) → look x ≡ look y → P x → Q y) → (xs ys : List X) → map look xs ≡ map look ys → Any P xs → Any Q ys
   any_alike P Q step xs ys same some =
@@ -48,7 +48,7 @@ module _ {X Z : Type 0} (look : X → Z) where
   at_place_alike P Q step (x ∷ xs) (y ∷ ys) same zero some = let first : look x ≡ look y = cc in step x y first some
   at_place_alike P Q step (x ∷ xs) (y ∷ ys) same (suc k) some = let others : map look xs ≡ map look ys = cc in at_place_alike P Q step xs ys others k some
 
-  -- Rows beside what looks alike
+  -- Rows of things that look alike
 
   pub rows_alike : {Y : Type 0} (R S : ℕ → X → Y → Type 0) → ((n : ℕ) (x z : X) (y : Y) → look x ≡ look z → R n x y → S n z y) → (index : ℕ) (xs zs : List X) (ys : List Y) → map look xs ≡ map look zs → AreRows R index xs ys → AreRows S index zs ys
   rows_alike R S step index [] [] [] same are = tt
@@ -89,7 +89,7 @@ kept_map look g keeps (x ∷ xs) =
 pub map_alike : {X W : Type 0} (look : X → X) (g : X → W) → ((x : X) → g (look x) ≡ g x) → (xs ys : List X) → map look xs ≡ map look ys → map g xs ≡ map g ys
 map_alike look g keeps xs ys same = sym (kept_map look g keeps xs) ∙ ap (map g) same ∙ kept_map look g keeps ys
 
--- lists that are made of parts which the look decides
+-- lists that are made of parts that the look decides
 pub flat_alike : {X W : Type 0} (look : X → X) (f : X → List W) → ((x y : X) → look x ≡ look y → f x ≡ f y) → (xs ys : List X) → map look xs ≡ map look ys → flat_map f xs ≡ flat_map f ys
 flat_alike look f step [] [] same = refl
 flat_alike look f step [] (y ∷ ys) same = absurd (let no : ⊥ = cc in no)

@@ -1,4 +1,4 @@
--- Programs that are alike break the same rules on managers and on what protocols manage.
+-- Programs that are alike break the same rules on managers and managed protocols.
 use Rattle.std.proofs.Common.{◌≡◌, ◌⊎◌, inl, inr, ℕ, List, [], codes, refl, sym, subst}
 use Rattle.std.specs.List.{Any}
 use Rattle.ipdl_base.specs.declared.finding.Finding.{Finding}

@@ -95,7 +95,7 @@ module _ (program other : List Entry) (alike : AreProgramsAlike program other) w
   finds_as_alike file text (Protocol p) finds = named_alike program other alike file text None (Protocol p) finds
   finds_as_alike file text _ finds = absurd finds
 
--- How many it finds
+-- The number of declarations that a name finds
 
 counts_alike : (P Q : DeclId → Type 0) → ((d : DeclId) → P d → Q d) → ((d : DeclId) → Q d → P d) → (answer : Found) → Counts P answer → Counts Q answer
 counts_alike P Q to back found.None counts = λ d holds. counts d (back d holds)
@@ -124,7 +124,7 @@ module _ (program other : List Entry) (alike : AreProgramsAlike program other) w
   pub one_protocol_alike : (file : ℕ) (text : List ℕ) (p : ℕ) → FindsOneProtocol program file text p → FindsOneProtocol other file text p
   one_protocol_alike file text p = found_as_alike file text (found.One (Protocol p))
 
--- What stands at a number
+-- The declaration at a number
 
 pub held_is : (held : Option ProtocolDecl) → unboxed_held held ≡ option_map unboxed_protocol held
 held_is None = refl

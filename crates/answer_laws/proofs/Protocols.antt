@@ -1,4 +1,5 @@
--- Protocols and messages of programs that are alike: what holds of one holds of the other, where trees without boxes decide it.
+-- Protocols and messages of programs that are alike: a property that trees without boxes decide passes from one to
+-- the other.
 use Rattle.std.proofs.Common.{◌≡◌, ◌∙◌, ℕ, List, Option, Some, None, IsSomeAnd, map, refl, sym}
 use Rattle.std.specs.Prelude.{option_map, IsSome}
 use Rattle.std.specs.List.{Any}
@@ -16,7 +17,7 @@ use Rattle.answer_laws.proofs.Names.{held_is}
 abbrev pub SameProtocol : ProtocolDecl → ProtocolDecl → Type 0
 SameProtocol p q = unboxed_protocol p ≡ unboxed_protocol q
 
--- messages that are
+-- messages that are the same up to boxes
 abbrev pub SameMessage : MessageDecl → MessageDecl → Type 0
 SameMessage m n = unboxed_message m ≡ unboxed_message n
 
@@ -39,7 +40,7 @@ module _ (program other : List Entry) (alike : AreProgramsAlike program other) w
 pub any_message_alike : (P Q : MessageDecl → Type 0) → ((m n : MessageDecl) → SameMessage m n → P m → Q n) → (p q : ProtocolDecl) → SameProtocol p q → Any P p.messages → Any Q q.messages
 any_message_alike P Q step p q same some = any_alike unboxed_message P Q step p.messages q.messages (λ i. (same i).messages) some
 
--- What a message returns
+-- The returns of a message
 
 returns_is : (returns : Option (List Param)) → unboxed_returns returns ≡ option_map (map unboxed_param) returns
 returns_is None = refl

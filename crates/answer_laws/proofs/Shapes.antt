@@ -1,4 +1,4 @@
--- Types of programs that are alike stand for the same types of a schema.
+-- The types of programs that are alike have the same shapes in a schema.
 use Rattle.std.proofs.Common.{◌≡◌, ◌∙◌, ℕ, Bool, List, [], ◌∷◌, sym, subst}
 use Rattle.ipdl_base.specs.declared.schema.Shape.{Shape}
 use Rattle.ipdl_base.specs.declared.schema.Shape as shape
@@ -18,7 +18,7 @@ use Rattle.answer_laws.proofs.Written.{SameBase}
 
 -- Suffixes and owned pointers
 
--- what is of one kind is of the other
+-- each shape with the one property has the other
 abbrev Implies : (Shape → Type 0) → (Shape → Type 0) → Type 0
 Implies P Q = (s : Shape) → P s → Q s
 

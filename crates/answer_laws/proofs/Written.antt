@@ -21,14 +21,14 @@ use Rattle.answer_laws.proofs.Protocols.{SameMessage, any_message_alike, held_al
 abbrev pub SameBase : Base → Base → Type 0
 SameBase b c = unboxed_base b ≡ unboxed_base c
 
--- a name alone is no box
+-- a name has no box
 pub same_named : (name : List ℕ) (argument : Option (List ℕ)) (c : Base) → SameBase (Named name argument) c → c ≡ Named name argument
 same_named name argument (Named other inner) same = sym same
 same_named name argument (Unique' at nullable inner after place) same = cc
 
 -- Types
 
--- what holds of a base holds of one that is the same up to boxes
+-- a property of a base holds of one that is the same up to boxes
 abbrev Passes : OfType → OfType → Type 0
 Passes P Q = (nullable : Bool) (b c : Base) (place : Place) → SameBase b c → P nullable b place → Q nullable c place
 

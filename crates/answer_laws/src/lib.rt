@@ -1,5 +1,5 @@
-//! Laws of what a command answers: no rule and no schema looks at where the boxes of trees lie (docs/theorems.md). No function
-//! that runs.
+//! Laws of the answers of commands: no rule and no schema depends on where the boxes of trees lie
+//! (docs/theorems.md). There is no function that runs.
 #![tactic(auto)]
 
 mod programs;

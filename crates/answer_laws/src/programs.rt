@@ -1,7 +1,9 @@
+//! The laws of programs that are the same up to where the boxes of their trees lie.
+
 ghost use Rattle.answer_laws.specs.Programs.{BreakAlike, AreListedAlike, HaveSchemasAlike};
 
-/// The law of the rules: programs that are the same up to where the boxes of their trees lie break
-/// the same rules on types, managers and messages at the same places.
+/// The law of rules: programs that are the same up to where the boxes of their trees lie break the
+/// same rules on types, managers and messages at the same places.
 pub fn break_alike()
     ensures { BreakAlike }
 {}

@@ -1,3 +1,5 @@
+//! Audits of what two threads print.
+
 ghost use Rattle.handler_script.specs.Valid.{IsValid};
 ghost use Rattle.ipdl_base.specs.Sound.{IsSound};
 
@@ -14,7 +16,7 @@ use std::thread::Threads;
 use thread_link::{Gate, TwoThreads};
 use world_core::{Driver, RunAnswer, World};
 
-/// The last line of what a run prints.
+/// Returns the last line of what a run prints.
 pub fn ending_of(answer: RunAnswer) -> &'static str {
     match answer {
         RunAnswer::Finished => "finished\n",
@@ -24,14 +26,14 @@ pub fn ending_of(answer: RunAnswer) -> &'static str {
     }
 }
 
-/// What a world prints whose run ended so.
+/// Returns what a world prints whose run ended with this answer.
 fn printed_of(alloc: Global, world: &World<'_>, answer: RunAnswer) -> Result<Vec<u8>, Fail> {
     let mut text = world.transcript(alloc)?;
     text.extend_from_slice(ending_of(answer).as_bytes())?;
     Ok(text)
 }
 
-/// What a run of a script prints whose sides go on at once.
+/// Returns what a run of a script prints whose sides run at the same time.
 fn printed<R: Threads + Wait + Sync + AllocGlobal>(
     rt: &R,
     schema: &Schema,
@@ -52,7 +54,7 @@ fn printed<R: Threads + Wait + Sync + AllocGlobal>(
     text
 }
 
-/// What an audit says of a run whose sides go on at once: how many events it has, if it is legal.
+/// Audits a run whose sides run at the same time. Returns how many events it has, if it is legal.
 fn legal_events<R: Threads + Wait + Sync + AllocGlobal>(
     rt: &R,
     schema: &Schema,
@@ -71,8 +73,8 @@ fn legal_events<R: Threads + Wait + Sync + AllocGlobal>(
     )
 }
 
-/// How many of a hundred runs are legal, and have so many events. That is the limit of each side, so it
-/// stops none of them.
+/// Returns how many of a hundred runs are legal and have this number of events. The number is also the
+/// limit of each side, so it stops none of them.
 fn legal_runs<R: Threads + Wait + Sync + AllocGlobal>(
     rt: &R,
     schema: &Schema,
@@ -100,7 +102,8 @@ fn race_is_legal(rt: HostRuntime) -> Result<(), Fail> {
     Ok(())
 }
 
-/// How many runs are legal of ten with each limit from 1 to 5, which is less than either side's events.
+/// Returns how many runs are legal, of ten with each limit from 1 to 5. These limits are below the
+/// number of events of either side.
 fn limited_runs<R: Threads + Wait + Sync + AllocGlobal>(
     rt: &R,
     schema: &Schema,
@@ -129,8 +132,8 @@ fn race_at_a_limit_is_legal(rt: HostRuntime) -> Result<(), Fail> {
     Ok(())
 }
 
-/// The text of a script whose mains have two hundred actions each: the parent's are a hundred times an
-/// async send and a sync one, and the child's fifty times an async send and three sync ones.
+/// Returns the text of a script whose mains have two hundred actions each: in the parent, a hundred
+/// times an async send and a sync one; in the child, fifty times an async send and three sync ones.
 fn two_hundred_actions(alloc: Global) -> Result<String, Fail> {
     let mut text = String::new(alloc);
     writeln!(text, "parent main")?;
@@ -148,8 +151,8 @@ fn two_hundred_actions(alloc: Global) -> Result<String, Fail> {
     Ok(text)
 }
 
-/// Each of 200 async requests has four events: 100 of the parent's main, 50 of the child's, and 50 that
-/// handlers of these send. Each of 250 sync ones has six. No send of them is refused.
+/// Each of 200 async requests has four events: 100 of the parent's main, 50 of the child's main, and 50
+/// that handlers send. Each of 250 sync requests has six. No send is refused.
 #[test]
 fn two_hundred_actions_a_side(rt: HostRuntime) -> Result<(), Fail> {
     let schema = schema_of(rt.alloc(), "PW.ipdl")?;

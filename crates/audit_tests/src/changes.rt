@@ -1,3 +1,5 @@
+//! Audits of texts that are cut, with a byte turned, or with a line doubled.
+
 ghost use Rattle.handler_script.specs.Valid.{IsValid};
 ghost use Rattle.ipdl_base.specs.Sound.{IsSound};
 
@@ -10,25 +12,25 @@ use std::alloc::Global;
 use std::test::Fail;
 use worked_runs::{RUNS, Row, row_of};
 
-/// No side of these runs has as many events. A world takes memory for as many as its limit allows, and
-/// here it is opened once for each changed text.
+/// No side of these runs has this number of events. A world takes memory for as many events as its
+/// limit allows, and here a world is opened for each changed text.
 pub const MOST_EVENTS: u32 = 64;
 
 /// How a text is changed at one of its bytes.
 #[derive(Clone, Copy)]
 enum Change {
-    /// It ends before the byte. Where that begins a line, this line is missing; and else what is left
-    /// of it has no line feed, so it is no line of what a run prints.
+    /// The text ends before the byte. If the byte begins a line, this line is missing. If not, the rest
+    /// of the line has no line feed, so no run prints it.
     Cut,
-    /// The lowest bit of the byte is another one. That never tells another side, nor a delivery in
-    /// place of an own step, so no run prints this line behind those before it.
+    /// The lowest bit of the byte is flipped. The line then never names the other side, nor a delivery
+    /// instead of a step of its own, so no run prints it after the lines before it.
     Turned,
-    /// The line that ends with the byte stands twice. Each line has numbers, or ends something, that
-    /// come once in these runs, so no run prints it again.
+    /// The line that ends with the byte is doubled. Each line has numbers, or ends something, that
+    /// occur once in these runs, so no run prints it again.
     Doubled,
 }
 
-/// A text that is changed at the byte of a place. The line of this byte begins at another place.
+/// Returns a text that is changed at the byte at `place`. The line of this byte begins at `begin`.
 fn changed(
     alloc: Global,
     text: &[u8],
@@ -36,21 +38,22 @@ fn changed(
     place: usize,
     change: Change,
 ) -> Result<Vec<u8>, Fail> {
-    let behind = place.saturating_add(1);
+    let following = place.saturating_add(1);
     let mut made = Vec::from_slice(alloc, text.get(..place).unwrap_or(text))?;
     match change {
         Change::Cut => return Ok(made),
         Change::Turned => made.push(text.get(place).copied().unwrap_or(0) ^ 1)?,
         Change::Doubled => {
             made.push(b'\n')?;
-            made.extend_from_slice(text.get(begin..behind).unwrap_or(&[]))?;
+            made.extend_from_slice(text.get(begin..following).unwrap_or(&[]))?;
         }
     }
-    made.extend_from_slice(text.get(behind..).unwrap_or(&[]))?;
+    made.extend_from_slice(text.get(following..).unwrap_or(&[]))?;
     Ok(made)
 }
 
-/// What an audit says of a text that is changed at a byte of a line, the first byte or another one.
+/// Returns what an audit must report of a text that is changed at a byte of a line, the first byte or
+/// another one.
 fn wanted(line: u32, is_first: bool, change: Change) -> Audit {
     match change {
         Change::Cut if is_first => Audit::Early(line),
@@ -59,7 +62,7 @@ fn wanted(line: u32, is_first: bool, change: Change) -> Audit {
     }
 }
 
-/// How many lines of a text are those of events: all but effects and the last one.
+/// Returns how many lines of a text are those of events: all except effects and the last line.
 fn events_of(text: &str) -> u32 {
     let mut count = 0u32;
     for line in text.lines() {
@@ -70,7 +73,7 @@ fn events_of(text: &str) -> u32 {
     count
 }
 
-/// Notes a change of which the audit says something else.
+/// Notes a change for which the audit reports something else.
 fn check_change(
     alloc: Global,
     schema: &Schema,
@@ -98,7 +101,7 @@ fn check_change(
     Ok(())
 }
 
-/// Notes what the audits of a row's changes say that is wrong.
+/// Notes the changes of a row for which the audit is wrong.
 fn check_changes(
     alloc: Global,
     schema: &Schema,
@@ -134,7 +137,7 @@ fn check_changes(
     Ok(())
 }
 
-/// Notes what the audits of a row say that is wrong, under its schema.
+/// Notes the same for a row, with the schema of its protocol.
 fn check_row(
     alloc: Global,
     schema: &Schema,
@@ -152,7 +155,8 @@ fn check_row(
     check_changes(alloc, schema, &script, limit, row, wrong)
 }
 
-/// What the audits of the worked runs without a death say that is wrong, and how many runs there are.
+/// Returns the changes of the worked runs without a death for which the audit is wrong, and how many
+/// such runs there are.
 fn checked(alloc: Global) -> Result<String, Fail> {
     let mut wrong = String::new(alloc);
     let mut count = 0u32;

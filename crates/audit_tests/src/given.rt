@@ -1,3 +1,5 @@
+//! Schemas, scripts and limits of the tests.
+
 ghost use Rattle.std.specs.Prelude.{IfOk};
 ghost use Rattle.ipdl_base.specs.Sound.{IsSound};
 ghost use Rattle.handler_script.specs.Valid.{IsValid};
@@ -8,14 +10,14 @@ use std::alloc::Global;
 use std::test::Fail;
 use worked_runs::{Row, protocol_files};
 
-/// The schema of the worked protocol of a file.
+/// Returns the schema of the worked protocol of a file.
 pub fn schema_of(alloc: Global, word: &str) -> Result<Schema, Fail>
     ensures { IfOk result IsSound }
 {
     schema_of_text::schema_of(alloc, protocol_files(alloc)?, word)
 }
 
-/// The number of the protocol with this short name.
+/// Returns the number of the protocol with this short name.
 fn number_of(schema: &Schema, name: &str) -> Result<u32, Fail> {
     let mut number = 0u32;
     for protocol in schema.protocols.as_slice() {
@@ -27,7 +29,7 @@ fn number_of(schema: &Schema, name: &str) -> Result<u32, Fail> {
     Err("no such protocol".into())
 }
 
-/// The script of a text, whose top is the protocol of a file.
+/// Returns the script of a text. Its top is the protocol of a file.
 pub fn script_of(alloc: Global, schema: &Schema, file: &str, text: &str) -> Result<Script, Fail>
     requires sound { IsSound schema.now }
     ensures { IfOk result (IsValid schema.now) }
@@ -44,7 +46,7 @@ pub fn script_of(alloc: Global, schema: &Schema, file: &str, text: &str) -> Resu
     )
 }
 
-/// The limit of a worked run, if it has no death.
+/// Returns the limit of a worked run, if it has no death.
 pub fn limit_of(row: Row<'_>) -> Result<Option<u32>, Fail> {
     let (_, rest) = row.course.split_once(" ").ok_or("a word alone")?;
     let (limit, death) = rest.split_once(" ").ok_or("a limit without a death")?;

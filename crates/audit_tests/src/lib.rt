@@ -1,8 +1,6 @@
-//! Tests of audits (docs/audit.md): the worked transcript of two ends that call each other at once,
-//! and texts that differ from it, each with its limit and with what the audit says; what worked runs
-//! print, whole, each front of it, with each byte turned, with each line twice, and with events of
-//! different sides in the other order; what two threads print; and what relays print, with a merge of
-//! both halves of each.
+//! Tests of audits (docs/audit.md): of a worked transcript and texts that differ from it; of what
+//! worked runs print, whole, cut, with a byte turned, a line doubled, or two events swapped; of what
+//! two threads print; and of a merge of both halves of what each relay prints.
 #![tactic(auto)]
 
 #[cfg(test)]

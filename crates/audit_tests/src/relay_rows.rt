@@ -1,6 +1,8 @@
-/// Relays. Each row is like one of a worked run, and without a script it has that of the audited runs. It
-/// prints the lines of the parent and then those of the child, worked out from the rules. `====` stands
-/// between two rows.
+//! Rows of relays.
+
+/// Relays. Each row has the form of a worked run; a row without a script has that of the audited runs.
+/// It prints the lines of the parent and then those of the child, worked out from the rules. `====`
+/// separates two rows.
 pub const RELAYS: &str = "each-serves-first PW.ipdl PC 10000 -
 parent on PW.CallP
 send top PW.CallC()

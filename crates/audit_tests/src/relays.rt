@@ -1,3 +1,5 @@
+//! What relays print, and audits of a merge of both halves.
+
 ghost use Rattle.handler_script.specs.Valid.{IsValid};
 ghost use Rattle.ipdl_base.specs.Sound.{IsSound};
 
@@ -20,7 +22,7 @@ use std::thread::Threads;
 use worked_runs::{RUNS, Row, row_of};
 use world_core::{Halves, OneThread, Relay, RunAnswer, Stop, World};
 
-/// What a relay prints: the lines of the parent, those of the child, and how it ended.
+/// Returns what a relay prints: the lines of the parent, those of the child, and how it ended.
 fn printed(
     alloc: Global,
     schema: &Schema,
@@ -35,7 +37,7 @@ fn printed(
     Ok(text)
 }
 
-/// What the relay of a script on one thread prints.
+/// Returns what the relay of a script on one thread prints.
 fn printed_in_turn(
     alloc: Global,
     schema: &Schema,
@@ -50,7 +52,7 @@ fn printed_in_turn(
     printed(alloc, schema, &halves, answer)
 }
 
-/// What a relay of a script prints whose sides go on at once.
+/// Returns what a relay of a script prints whose sides run at the same time.
 fn printed_at_once<R: Threads + Wait + Sync + AllocGlobal>(
     rt: &R,
     schema: &Schema,
@@ -65,7 +67,7 @@ fn printed_at_once<R: Threads + Wait + Sync + AllocGlobal>(
     printed(rt.alloc(), schema, &halves, answer)
 }
 
-/// How many of a hundred relays whose sides go on at once print this text.
+/// Returns how many of a hundred relays whose sides run at the same time print this text.
 fn equal_relays<R: Threads + Wait + Sync + AllocGlobal>(
     rt: &R,
     schema: &Schema,
@@ -85,8 +87,9 @@ fn equal_relays<R: Threads + Wait + Sync + AllocGlobal>(
     Ok(good)
 }
 
-/// Whether this is what a row prints, with the events of the parent before those of the child. A run by
-/// a word with small letters may deliver before an own step, which no relay does; there any text will do.
+/// Returns whether this is what a row prints, with the events of the parent before those of the child.
+/// A run by a word with small letters may deliver before a side's own step, which no relay does; for
+/// such a row any text is accepted.
 fn is_of_row(alloc: Global, row: Row<'_>, text: &[u8]) -> Result<bool, Fail> {
     let (word, _) = row.course.split_once(" ").ok_or("a word alone")?;
     if word.contains("p") || word.contains("c") {
@@ -104,7 +107,7 @@ fn is_of_row(alloc: Global, row: Row<'_>, text: &[u8]) -> Result<bool, Fail> {
     Ok(wanted.as_bytes() == text)
 }
 
-/// Whether this event is the parent's, and an audit takes it after this text.
+/// Returns whether this event is the parent's, and an audit accepts it after this text.
 fn is_taken(
     alloc: Global,
     schema: &Schema,
@@ -120,8 +123,9 @@ fn is_taken(
     Ok(event.starts_with("parent ") && matches!(found, Audit::Early(_)))
 }
 
-/// A merge of both halves, whose events stand here with the parent's first and the child's from a place
-/// on. Each time it takes the parent's next event where the audit does so too, and else the child's.
+/// Returns a merge of both halves. `events` has those of the parent first, and those of the child from
+/// `begin` on. Each time the merge takes the parent's next event if the audit accepts it, or else the
+/// child's.
 fn merged(
     alloc: Global,
     schema: &Schema,
@@ -148,7 +152,7 @@ fn merged(
     Ok(text)
 }
 
-/// Whether a merge of both halves of what a relay prints is legal, with all its events.
+/// Returns whether a merge of both halves of what a relay prints is legal, with all its events.
 fn is_legal(alloc: Global, schema: &Schema, script: &Script, printed: &[u8]) -> Result<bool, Fail>
     requires sound { IsSound schema.now }
     requires valid { IsValid schema.now script.now }
@@ -165,7 +169,7 @@ fn is_legal(alloc: Global, schema: &Schema, script: &Script, printed: &[u8]) -> 
     Ok(matches!(found, Audit::Legal(count) if count as usize == events.len().wrapping_sub(1)))
 }
 
-/// The death of the child in a row, if it has one.
+/// Returns the death of the child in a row, if it has one.
 fn stop_of(row: Row<'_>) -> Result<Option<Stop>, Fail> {
     let Some((_, after)) = row.course.split_once("child:") else {
         return Ok(None);
@@ -176,7 +180,7 @@ fn stop_of(row: Row<'_>) -> Result<Option<Stop>, Fail> {
     }))
 }
 
-/// Notes what relays of a row print that is wrong, under its schema.
+/// Notes what relays of a row print that is wrong, with the schema of its protocol.
 fn check_row<R: Threads + Wait + Sync + AllocGlobal>(
     rt: &R,
     schema: &Schema,
@@ -198,7 +202,7 @@ fn check_row<R: Threads + Wait + Sync + AllocGlobal>(
     Ok(())
 }
 
-/// What relays of the rows that finish print that is wrong, and how many such rows there are.
+/// Returns what relays of the rows that finish print that is wrong, and how many such rows there are.
 fn checked<R: Threads + Wait + Sync + AllocGlobal>(rt: &R, rows: &str) -> Result<String, Fail> {
     let mut wrong = String::new(rt.alloc());
     let mut count = 0u32;

@@ -1,4 +1,6 @@
-/// The script of the audited runs: both ends call each other at once.
+//! Rows of audits.
+
+/// The script of the audited runs: both ends call each other at the same time.
 pub const SCRIPT: &str = "parent main
 send top PW.CallC()
 end
@@ -13,8 +15,8 @@ return (20)
 end
 ";
 
-/// Audits. Each row: its name, its limit and what the audit says; and then the text. `====` stands
-/// between two rows.
+/// Audits. Each row has its name, its limit and what the audit reports; and then the text. `====`
+/// separates two rows.
 pub const AUDITS: &str = "whole 10000 legal 12
 parent call 1/1 to 2147483647 PW.CallC()
 child call -1/-1 to 2147483647 PW.CallP()

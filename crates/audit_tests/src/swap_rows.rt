@@ -1,12 +1,15 @@
-/// What an audit says of each worked run in which two neighbouring events of different sides stand in the
-/// other order, each with its effects: the run, the number of the first of the two, counted from 1, and
-/// what is said.
+//! Rows of audits of swapped events.
+
+/// What an audit reports of each worked run in which two neighbouring events of different sides are
+/// swapped, each with its effects: the run, the number of the first of the two, counted from 1, and
+/// what the audit reports.
 ///
-/// Each is as the rules have it. What an end does, and what a delivery does to it, is decided by its own
-/// lines and by the packet that comes next; so the two may stand either way, and the text stays legal with
-/// as many events. It is otherwise only where the second delivers what the first put on the link: a request
-/// (of lazy ones, those that a later send or a flush puts there), a reply, a goodbye or a mark. Then there
-/// is nothing to deliver, and the line at which the first stood is the one that no run prints.
+/// Each is worked out from the rules. What an end does, and what a delivery does to it, depends only on
+/// its own lines and on the packet that comes next. So the two may be in either order, and the text
+/// stays legal, with the same number of events. The exception is a second event that delivers what the
+/// first put on the link: a request (for a lazy one, a later send or a flush puts it there), a reply, a
+/// goodbye or a mark. Then there is nothing to deliver, and the line at the place of the first is the
+/// one that no run prints.
 pub const SWAPS: &str = "\
 both-call-at-once 1 legal 12
 both-call-at-once 2 no step 2

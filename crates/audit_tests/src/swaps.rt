@@ -1,3 +1,5 @@
+//! Audits of texts in which two neighbouring events are swapped.
+
 ghost use Rattle.handler_script.specs.Valid.{IsValid};
 ghost use Rattle.ipdl_base.specs.Sound.{IsSound};
 
@@ -10,7 +12,8 @@ use std::alloc::Global;
 use std::test::Fail;
 use worked_runs::{RUNS, Row, row_of};
 
-/// The events of what a run prints, each with its effects, and behind them the line of how it ended.
+/// Returns the events of what a run prints, each with its effects, and after them the line that reports
+/// how it ended.
 pub fn events_of(alloc: Global, printed: &str) -> Result<Vec<String>, Fail> {
     let mut events = Vec::new(alloc);
     for line in printed.lines() {
@@ -23,7 +26,7 @@ pub fn events_of(alloc: Global, printed: &str) -> Result<Vec<String>, Fail> {
     Ok(events)
 }
 
-/// The text of these events, in which the one of a place comes behind the next.
+/// Returns the text of these events, with the one at a place after the next one.
 fn swapped(alloc: Global, events: &[String], place: usize) -> Result<String, Fail> {
     let next = place.saturating_add(1);
     let mut text = String::new(alloc);
@@ -38,13 +41,13 @@ fn swapped(alloc: Global, events: &[String], place: usize) -> Result<String, Fai
     Ok(text)
 }
 
-/// Whether two events are of different sides.
+/// Returns whether two events are of different sides.
 fn are_apart(one: &str, other: &str) -> bool {
     one.starts_with("parent ") && other.starts_with("child ")
         || one.starts_with("child ") && other.starts_with("parent ")
 }
 
-/// Writes what the audits of a row say, with any two neighbours of different sides in the other order.
+/// Writes what the audits of a row report, with any two neighbours of different sides swapped.
 fn write_swaps(
     alloc: Global,
     schema: &Schema,
@@ -70,7 +73,7 @@ fn write_swaps(
     Ok(())
 }
 
-/// Writes what the audits of a row say, under its schema.
+/// Writes what the audits of a row report, with the schema of its protocol.
 fn write_row(
     alloc: Global,
     schema: &Schema,
@@ -84,8 +87,8 @@ fn write_row(
     write_swaps(alloc, schema, &script, limit, row, out)
 }
 
-/// What the audits of the worked runs without a death say, each with any two neighbours of different
-/// sides in the other order.
+/// Returns what the audits of the worked runs without a death report, each with any two neighbours of
+/// different sides swapped.
 fn all_swaps(alloc: Global) -> Result<String, Fail> {
     let mut out = String::new(alloc);
     for text in RUNS.split("====\n") {

@@ -1,3 +1,5 @@
+//! Audits of the rows, and an audit as text.
+
 ghost use Rattle.handler_script.specs.Valid.{IsValid};
 ghost use Rattle.ipdl_base.specs.Sound.{IsSound};
 ghost use Rattle.std.specs.Prelude.{◌≤◌, length};
@@ -6,11 +8,11 @@ use super::given::{schema_of, script_of};
 use super::rows::{AUDITS, SCRIPT};
 use handler_script::Script;
 use ipdl_base::Schema;
-use ipdl_top::{Audit, audit};
+use ipdl_top::{Audit, audit_text};
 use std::alloc::Global;
 use std::test::Fail;
 
-/// What an audit says, as text.
+/// Returns an audit as text.
 fn shown(alloc: Global, found: Audit) -> Result<String, Fail> {
     Ok(match found {
         Audit::Legal(events) => format!(in alloc; "legal {events}")?,
@@ -19,7 +21,7 @@ fn shown(alloc: Global, found: Audit) -> Result<String, Fail> {
     })
 }
 
-/// What the audit of a text finds.
+/// Returns the audit of a text.
 pub fn found(
     alloc: Global,
     schema: &Schema,
@@ -33,10 +35,10 @@ pub fn found(
     if limit > 20_000 || text.len() > 16_777_216 {
         return Err("a limit or a text that is too large".into());
     }
-    Ok(audit(alloc, schema, script, limit, text)?)
+    Ok(audit_text(alloc, schema, script, limit, text)?)
 }
 
-/// What the audit of a text says, as text.
+/// Returns the audit of a text, as text.
 pub fn said(
     alloc: Global,
     schema: &Schema,
@@ -50,7 +52,7 @@ pub fn said(
     shown(alloc, found(alloc, schema, script, limit, text)?)
 }
 
-/// Notes a row of which the audit says something else.
+/// Notes a row for which the audit reports something else.
 fn check(
     alloc: Global,
     schema: &Schema,
@@ -77,7 +79,7 @@ fn check(
     Ok(())
 }
 
-/// The rows of which the audit says something else, and how many rows there are.
+/// Returns the rows for which the audit reports something else, and how many rows there are.
 fn checked(alloc: Global, schema: &Schema, script: &Script) -> Result<String, Fail>
     requires sound { IsSound schema.now }
     requires valid { IsValid schema.now script.now }
@@ -92,7 +94,7 @@ fn checked(alloc: Global, schema: &Schema, script: &Script) -> Result<String, Fa
     Ok(wrong)
 }
 
-/// What the audits of the rows say that is wrong, under a schema.
+/// Returns the rows of the table for which the audit is wrong, with a schema.
 fn all_rows(alloc: Global, schema: &Schema) -> Result<String, Fail>
     requires { IsSound schema.now }
 {

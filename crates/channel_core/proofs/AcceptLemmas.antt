@@ -21,7 +21,8 @@ use Rattle.value_types.specs.Sizes.{payload_size}
 use Rattle.value_types.proofs.Boxes.{body_size-plain}
 use Rattle.channel_model.specs.Ends.{End, StackEntry, PromiseEntry}
 use Rattle.channel_model.specs.Events as event
-use Rattle.channel_model.specs.Numbers.{request_row, protocol_of, is_sync_row, is_constructor, sends}
+use Rattle.ipdl_base.specs.Sides.{sends}
+use Rattle.channel_model.specs.Numbers.{request_row, protocol_of, is_sync_row, is_constructor}
 use Rattle.channel_model.specs.Outputs.{beginning, line, is_open}
 use Rattle.channel_model.specs.Parts.{IsSent}
 use Rattle.channel_model.specs.Requests.{promise_seq}
@@ -37,7 +38,7 @@ use Rattle.channel_model.proofs.SendParts.{passed-first, request-number}
 use Rattle.channel_model.proofs.SoundRows.{IsAt, row-at}
 use Rattle.channel_model.proofs.Tests.{and-right}
 use Rattle.end_parts.specs.OutputView.{OutputView}
-use Rattle.end_parts.specs.Refusals.{send_refusal_by}
+use Rattle.end_steps.specs.Refusals.{send_refusal_by}
 use Rattle.channel_core.specs.Answers.{SendGives, refusal_of_send, made_by_send}
 use Rattle.channel_core.specs.declared.answers.SendAnswer.TheVariants.{Sent}
 use Rattle.channel_core.specs.Inside.{IsKept}

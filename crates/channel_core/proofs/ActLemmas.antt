@@ -1,4 +1,4 @@
--- What acts of handlers make: resolvers that are used, kept and let go, names, and answers.
+-- What acts of handlers make: resolvers that are used, kept and dropped, names, and answers.
 use Rattle.std.proofs.Common.{◌≡◌, ℕ, suc, ◌+◌, ◌-◌, ◌≤◌, ℤ, Bool, true, false, ◌&&◌, cond, List, [], ◌∷◌, ◌++◌, length, Option, Some, None, is_some, option_and_then, refl, ap, sym, subst, ◌∙◌, append-nil, arith}
 use Rattle.ipdl_base.specs.declared.kinds.Reason.TheVariants.{ResolverDestroyed}
 use Rattle.ipdl_base.specs.declared.line.Line.{Line}
@@ -20,12 +20,12 @@ use Rattle.channel_model.specs.Steps.{provided, step}
 use Rattle.channel_model.proofs.FittingEnds.{held-fits}
 use Rattle.channel_model.proofs.FittingRequests.{promised-fault}
 use Rattle.end_parts.specs.declared.packet.Packet.{Packet}
-use Rattle.end_parts.specs.declared.renaming.DestroyedReply.{DestroyedReply}
+use Rattle.end_steps.specs.declared.renaming.DestroyedReply.{DestroyedReply}
 use Rattle.end_parts.specs.NameContents.{holds_at, shown_id}
 use Rattle.end_parts.specs.OutputView.{OutputView, with_line, with_packet}
-use Rattle.end_parts.specs.declared.renaming.NewName.{NewName}
+use Rattle.end_steps.specs.declared.renaming.NewName.{NewName}
 use Rattle.end_parts.specs.NamesView.{NamesView}
-use Rattle.end_parts.specs.Renamings.{destroyed_frame, destroyed_message, destroyed_of, with_destroyed, IsNewName}
+use Rattle.end_steps.specs.Renamings.{destroyed_frame, destroyed_message, destroyed_of, with_destroyed, IsNewName}
 use Rattle.channel_core.specs.Inside.{IsInside, IsKept}
 use Rattle.channel_core.specs.ResolverReplies.{HasReplied, HasReserved, HasSaid}
 use Rattle.channel_core.specs.Room.{room, wait_lines, waits_in}
@@ -39,7 +39,7 @@ use Rattle.channel_core.proofs.TrackLemmas.{tracks_end, tracks_line, tracks_put,
 abbrev pub acted : EndView → What → List StackEntry → List Naming → Output
 acted v what stack names = record { end = record v.end { stack = stack; names = names }; lines = line_at v.end.side what ∷ []; packets = [] }
 
--- the end behind it, as the code has it
+-- the end after it, as the code has it
 abbrev pub acted_end : EndView → List StackEntry → List Naming → OutputView → End
 acted_end v stack names out = record v.end { stack = stack; names = names; outbox = out.outbox }
 
@@ -208,7 +208,7 @@ keep-steps v r name stack is may own =
     ∙ ap (λ (x : Option Resolver). Some (renamed name (option_and_then (kept_by v.end) x) (acted v (what.Keep r.seq name) (released r.seq v.end.stack) v.end.names))) own
     ∙ ap (λ (es : List StackEntry). Some (renamed name (kept_by v.end r) (acted v (what.Keep r.seq name) es v.end.names))) (sym is)
 
--- The code says a line and puts the answer for the resolver that a name holds, if it is to be let go.
+-- The code prints a line and puts the answer for the resolver of a name, if it must be destroyed.
 record HasNamed (v : EndView) (what : What) (name : List ℕ) (before room after : OutputView) : Type 0 where
   same : room ≡ record before { line_spare = room.line_spare; packet_spare = room.packet_spare }
   lines : before.lines_owed + 2 ≤ room.line_spare
@@ -222,7 +222,7 @@ destroyed-framed schema e name r sound fitting is = record {
   plain = refl;
 }
 
--- what a name held is let go
+-- the resolver that a name had is destroyed
 pub let-go-tracks : (v : EndView) (content : Option NameContent) (o : Output) (out out' : OutputView) → ((r : Resolver) → content ≡ Some (resolver r) → HasFrame v.schema (destroyed_message (resolver_answered r))) → Tracks v o out
     → out' ≡ with_destroyed o.end.side out (destroyed_of (is_open o.end.state) v.schema content) → Tracks v (let_go content o) out'
 let-go-tracks v None o out out' framed t e = subst (Tracks v o) (sym e) t

@@ -23,7 +23,7 @@ use Rattle.channel_model.proofs.SendParts.{request-number}
 use Rattle.end_parts.specs.OutputView.{OutputView}
 use Rattle.end_parts.specs.declared.reply.AnsweredRequest.{AnsweredRequest as Answered}
 use Rattle.end_parts.specs.Replies.{answered_of, line_of_reply}
-use Rattle.end_parts.proofs.RenamingLemmas.{request-small}
+use Rattle.end_steps.proofs.RenamingLemmas.{request-small}
 use Rattle.channel_core.specs.declared.answers.NamedAnswer.{NamedAnswer}
 use Rattle.channel_core.specs.declared.answers.NamedAnswer.TheVariants as answer
 use Rattle.channel_core.specs.Answers.{AnswerGives}
@@ -42,7 +42,7 @@ use Rattle.channel_core.proofs.ReplyLemmas.{Refuses, Sends, line-answering, refu
 
 -- Checks
 
--- what a check has found is what the definitions say
+-- what a check has found is what the definitions give
 abbrev pub IsFound : EndView → Answering → Option Values → ReplyCheck → Type 0
 IsFound v by vs (Refused cause) = Refuses v by vs cause
 IsFound v by vs (Accepted m) = Sends v by vs (plain_message m)
@@ -93,14 +93,14 @@ kept-small v name number q vs out may e inside = by (held_by_name name v.end.nam
     by (Some (resolver r)) e = at (r.number == number) r refl e
 
 -- what the answer repeats, behind a reference
-pub answered-behind : (o : Option (Bor Answered)) (q : Option Answered) → option_copied o ≡ q → option_map (λ (b : Bor Answered). answered_of b.now) o ≡ option_map answered_of q
-answered-behind None q e = ap (option_map answered_of) e
-answered-behind (Some b) q e = ap (option_map answered_of) e
+pub answered-following : (o : Option (Bor Answered)) (q : Option Answered) → option_copied o ≡ q → option_map (λ (b : Bor Answered). answered_of b.now) o ≡ option_map answered_of q
+answered-following None q e = ap (option_map answered_of) e
+answered-following (Some b) q e = ap (option_map answered_of) e
 
-pub kept-small-behind : (v : EndView) (name : List ℕ) (number : ℕ) (o : Option (Bor Answered)) (vs : Option Values) (out : OutputView) → MayAnswer v (kept name number) vs → option_map (λ (b : Bor Answered). answered_of b.now) o ≡ option_map resolver_answered (resolver_used v.end (kept name number))
+pub kept-small-following : (v : EndView) (name : List ℕ) (number : ℕ) (o : Option (Bor Answered)) (vs : Option Values) (out : OutputView) → MayAnswer v (kept name number) vs → option_map (λ (b : Bor Answered). answered_of b.now) o ≡ option_map resolver_answered (resolver_used v.end (kept name number))
     → IsInside v.schema v.end out → IfSome o (λ b. b.now.number < 4294967295)
-kept-small-behind v name number None vs out may e inside = tt
-kept-small-behind v name number (Some b) vs out may e inside = kept-small v name number (answered_of b.now) vs out may e inside
+kept-small-following v name number None vs out may e inside = tt
+kept-small-following v name number (Some b) vs out may e inside = kept-small v name number (answered_of b.now) vs out may e inside
 
 -- What is made
 

@@ -30,8 +30,8 @@ use Rattle.channel_model.proofs.DeliveryParts.{answered-at}
 use Rattle.channel_model.proofs.FittingEnds.{replaced-in}
 use Rattle.channel_model.proofs.FittingParts.{Alike, alike, replaced-fits}
 use Rattle.channel_model.proofs.FittingRequests.{request-of}
-use Rattle.end_parts.specs.Arrivals.{HasReceivedRequest, IsReplacedFramed, KeepsRoom, MayAnswerReplaced, replaced_answer, replaced_request, with_outbox_paid, with_replaced}
-use Rattle.end_parts.proofs.PlanLemmas.{number-small}
+use Rattle.end_steps.specs.Arrivals.{HasReceivedRequest, IsReplacedFramed, KeepsRoom, MayAnswerReplaced, replaced_answer, replaced_request, with_outbox_paid, with_replaced}
+use Rattle.end_steps.proofs.PlanLemmas.{number-small}
 use Rattle.end_parts.specs.OutputView.{OutputView, with_line, with_packet}
 use Rattle.channel_core.specs.Inside.{IsInside}
 use Rattle.channel_core.specs.Room.{room}
@@ -69,7 +69,7 @@ same_output v o out out' t e =
 abbrev fault_to : AnsweredRequest → Message
 fault_to q = reply_to q (Fault ResolverDestroyed)
 
--- what is said and sent, by whether it is answered
+-- what is printed and sent, by whether it is answered
 makes_way : (v : EndView) (o : Output) (out out' : OutputView) (q : AnsweredRequest) (b : Bool) → Tracks v o out → is_open o.end.state ≡ true → (b ≡ true → HasFrame v.schema (fault_to q))
     → out' ≡ with_replaced o.end.side (Some q) (cond b (Some (frame_packet v.schema (fault_to q))) None) out → Replacing v o out out' (when b (answered q (answer.Fault ResolverDestroyed)) (line (what.Replaced q.seq) o))
 makes_way v o out out' q false t opens framed e =
@@ -99,7 +99,7 @@ replacing_made v o out out' row (Some (item.Message old sync level)) t opens fra
 
 -- A request
 
--- an end behind it
+-- an end after it
 abbrev pub received_end : End → MessageRow → List Item → OutputView → End
 received_end e row items out = record e { arrived = items; outbox = out.outbox; delivered = e.delivered + 1; constructors_delivered = counting row.kind e.constructors_delivered }
 

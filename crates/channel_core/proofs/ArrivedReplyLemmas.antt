@@ -21,7 +21,7 @@ use Rattle.channel_model.specs.Ends.{End, StackEntry}
 use Rattle.channel_model.specs.Ends as model
 use Rattle.channel_model.specs.Numbers.{is_sync_row}
 use Rattle.channel_model.specs.Outputs.{Output, beginning, body_of, line, line_at, on_end}
-use Rattle.end_parts.specs.Arrivals.{reply_answer, HasAnswered, HasReceivedReply}
+use Rattle.end_steps.specs.Arrivals.{reply_answer, HasAnswered, HasReceivedReply}
 use Rattle.end_parts.specs.OutputView.{OutputView, with_line}
 use Rattle.end_parts.specs.StackDetails.{frames_in}
 use Rattle.end_parts.proofs.WaitLemmas.{with_same_frames}

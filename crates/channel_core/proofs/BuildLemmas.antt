@@ -9,7 +9,7 @@ use Rattle.ipdl_base.specs.declared.schema.Kind.TheVariants.{Normal, Constructor
 use Rattle.channel_model.specs.Ends.{End}
 use Rattle.channel_model.specs.Outputs.{Change, Output, line, line_at, on_end, unchanged}
 use Rattle.channel_model.specs.Sends as send
-use Rattle.end_parts.specs.BuiltActors.{built_by, with_built, with_built_line}
+use Rattle.end_steps.specs.BuiltActors.{built_by, with_built, with_built_line}
 use Rattle.end_parts.specs.OutputView.{OutputView, with_line}
 use Rattle.channel_core.specs.EndView.{EndView}
 use Rattle.channel_core.specs.Tracks.{Tracks}
@@ -25,7 +25,7 @@ constructs_built made route Normal o = refl
 constructs_built made route (Constructor protocol) o = refl
 constructs_built made route Delete o = refl
 
--- the end behind it has one actor more
+-- the end after it has one actor more
 pub built_end : (built : Option Actor) (o : Output) → (builds built o).end ≡ record o.end { actors = with_built built o.end.actors }
 built_end None o = refl
 built_end (Some a) o = refl

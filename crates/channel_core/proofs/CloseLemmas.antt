@@ -22,12 +22,12 @@ use Rattle.channel_model.specs.Ends.{End, PromiseEntry, Naming, message}
 use Rattle.channel_model.specs.Events as event
 use Rattle.channel_model.specs.Falls.{rejections, fall_lines, closed, abandoned}
 use Rattle.channel_model.specs.Names.{without_resolvers}
-use Rattle.channel_model.specs.Numbers.{top_id}
+use Rattle.ipdl_base.specs.Sides.{top_id}
 use Rattle.channel_model.specs.Outputs.{Output, beginning, line, lines, line_at, put, is_open}
 use Rattle.channel_model.specs.Sends.{may_act}
 use Rattle.channel_model.specs.Steps.{step, provided}
 use Rattle.end_parts.specs.declared.packet.Packet.{Packet}
-use Rattle.end_parts.specs.Falls.{HasClosed}
+use Rattle.end_steps.specs.Falls.{HasClosed}
 use Rattle.end_parts.specs.OutputView.{OutputView, with_line, with_packet}
 use Rattle.end_parts.specs.PromiseRequests.{pending_in}
 use Rattle.channel_core.specs.Inside.{IsInside}

@@ -24,15 +24,15 @@ use Rattle.channel_model.specs.Sends.{constructs, names_actor, next_made, wait_f
 use Rattle.channel_model.proofs.Known.{fresh-own}
 use Rattle.channel_model.proofs.SendParts.{lives-as}
 use Rattle.channel_model.proofs.SoundRows.{IsAt}
-use Rattle.end_parts.specs.BuiltActors.{built_by, with_built, with_built_line, IsFree}
-use Rattle.end_parts.specs.declared.renaming.DestroyedReply.{DestroyedReply}
+use Rattle.end_steps.specs.BuiltActors.{built_by, with_built, with_built_line, IsFree}
+use Rattle.end_steps.specs.declared.renaming.DestroyedReply.{DestroyedReply}
 use Rattle.end_parts.specs.NamesView.{NamesView}
 use Rattle.end_parts.specs.OutputView.{OutputView, with_packet}
-use Rattle.end_parts.specs.Renamings.{destroyed_message, destroyed_of, with_destroyed}
-use Rattle.end_parts.specs.SentRequests.{stack_behind}
+use Rattle.end_steps.specs.Renamings.{destroyed_message, destroyed_of, with_destroyed}
+use Rattle.end_steps.specs.SentRequests.{stack_after}
 use Rattle.channel_core.specs.declared.ready_name.ReadyName.{ReadyName}
 use Rattle.channel_core.specs.Inside.{IsInside, IsKept}
-use Rattle.channel_core.specs.NewNames.{IsReadyName, names_behind, output_behind}
+use Rattle.channel_core.specs.NewNames.{IsReadyName, names_after, output_after}
 use Rattle.channel_core.specs.Room.{room, waits_in}
 use Rattle.channel_core.specs.EndView.{EndView, frame_packet, HasFrame}
 use Rattle.channel_core.specs.Sending.{IsAccepted}
@@ -91,7 +91,7 @@ abbrev HaveFrames : EndView → List Naming → Type 0
 HaveFrames v names = (name : List ℕ) (r : Resolver) → held_by_name name names ≡ Some (resolver r) → HasFrame v.schema (destroyed_message (resolver_answered r))
 
 pub names_it : (v : EndView) (o : Output) (id : ℤ) (name : Option (List ℕ)) (view : NamesView) (ready : Option ReadyName) (names : List Naming) (out out' : OutputView)
-    → is_open o.end.state ≡ true → view.names ≡ o.end.names → IsReadyName v.schema name view ready → HaveFrames v o.end.names → Tracks v o out → names ≡ names_behind ready id view.names → out' ≡ output_behind o.end.side ready out → Named v o id name names out'
+    → is_open o.end.state ≡ true → view.names ≡ o.end.names → IsReadyName v.schema name view ready → HaveFrames v o.end.names → Tracks v o out → names ≡ names_after ready id view.names → out' ≡ output_after o.end.side ready out → Named v o id name names out'
 names_it v o id None view None names out out' opens same r framed t n p = record {
   tracks = subst (Tracks v o) (sym p) t;
   ends = sym (ap (λ (ns : List Naming). record o.end { names = ns; outbox = out'.outbox }) (n ∙ same) ∙ ap (λ (ms : List Message). record o.end { outbox = ms }) (ap (λ (g : OutputView). g.outbox) p ∙ t.outbox));
@@ -131,18 +131,18 @@ destroyed_room : (side : Side) (reply : Option DestroyedReply) (out out' : Outpu
 destroyed_room side None out out' e = same_room out out' e
 destroyed_room side (Some reply) out out' e = rw e (record { owed = refl; lines = omega arith; packets = omega arith; frames = omega arith; outbox = omega arith; goodbye = refl })
 
-pub named_room : (side : Side) (ready : Option ReadyName) (out out' : OutputView) → out' ≡ output_behind side ready out → NamedRoom out out'
+pub named_room : (side : Side) (ready : Option ReadyName) (out out' : OutputView) → out' ≡ output_after side ready out → NamedRoom out out'
 named_room side None out out' e = same_room out out' e
 named_room side (Some ready) out out' e = destroyed_room side ready.destroyed out out' e
 
 -- What the code makes of a constructor.
 pub record CodeConstructs (v : EndView) (row : MessageRow) (m : Message) (vs : Values) (name : Option (List ℕ)) (out mid said posted named built' owed : OutputView) (actors : List Actor) (stack : List StackEntry) (view : NamesView) (ready : Option ReadyName) (names : List Naming) : Type 0 where
   pub posts : CodePosts v row m vs out mid said posted
-  pub waits : stack ≡ stack_behind row m v.end.stack
+  pub waits : stack ≡ stack_after row m v.end.stack
   pub reserves : view.names ≡ v.end.names
   pub ready_is : IsReadyName v.schema name view ready
-  pub holds : names ≡ names_behind ready m.made view.names
-  pub tells : named ≡ output_behind v.end.side ready posted
+  pub holds : names ≡ names_after ready m.made view.names
+  pub tells : named ≡ output_after v.end.side ready posted
   pub builds : actors ≡ with_built (built_by row.kind m.made m.route) v.end.actors
   pub says : built' ≡ with_built_line v.end.side (built_by row.kind m.made m.route) named
   pub owes : owed ≡ record built' { lines_owed = built'.lines_owed + 2 }
@@ -156,11 +156,11 @@ constructed_with e actors stack names out = record e { sent = e.sent + 1; constr
 follows : (row : MessageRow) (m : Message) (p : ℕ) (o : Output) → row.kind ≡ Constructor p → deletes m.route row.kind (constructs m.made m.route row.kind o) ≡ builds (built_by row.kind m.made m.route) o
 follows row m p o kind = rw kind refl
 
-ends_so : (row : MessageRow) (m : Message) (e : End) (k : IsMaking row) (actors : List Actor) (stack : List StackEntry) (names : List Naming) (out : OutputView) → stack ≡ stack_behind row m e.stack
+ends_so : (row : MessageRow) (m : Message) (e : End) (k : IsMaking row) (actors : List Actor) (stack : List StackEntry) (names : List Naming) (out : OutputView) → stack ≡ stack_after row m e.stack
     → constructed_with e actors stack names out ≡ record (sent_end row m e) { names = names; outbox = out.outbox; actors = actors }
 ends_so row m e k actors stack names out s =
     ap (λ (es : List StackEntry). constructed_with e actors es names out) s
-    ∙ ap (λ (x : Kind). record (constructed_with e actors (stack_behind row m e.stack) names out) { constructors_sent = counting x e.constructors_sent }) (sym k.kind)
+    ∙ ap (λ (x : Kind). record (constructed_with e actors (stack_after row m e.stack) names out) { constructors_sent = counting x e.constructors_sent }) (sym k.kind)
     ∙ ap (λ (b : Bool). record (sent_end row m e) { names = names; outbox = out.outbox; actors = actors; promises = cond b (e.promises ++ promise_for m ∷ []) e.promises }) (sym k.wants)
 
 pub sends_constructor : (v : EndView) (row : MessageRow) (m : Message) (vs : Values) (name : Option (List ℕ)) (out mid said posted named built' owed : OutputView) (actors : List Actor) (stack : List StackEntry) (view : NamesView) (ready : Option ReadyName) (names : List Naming)
@@ -229,7 +229,7 @@ constructor_room v row m vs name out mid said posted named built' owed actors st
     let frames : length owed.frames ≡ length named.frames = ap (λ (g : OutputView). length g.frames) c.owes ∙ ap length b.frames in
     let boxes : length owed.outbox ≡ length named.outbox = ap (λ (g : OutputView). length g.outbox) c.owes ∙ ap length b.outbox in
     let grown : length actors ≡ length v.end.actors + b.grows = ap length c.builds ∙ b.actors v.end.actors in
-    let wait : waits_in stack ≡ waits_in (stack_behind row m v.end.stack) = ap waits_in c.waits in
+    let wait : waits_in stack ≡ waits_in (stack_after row m v.end.stack) = ap waits_in c.waits in
     let more = waits_more (is_sync_row row) row m v.end.stack in
     record {
       owes = omega (arith, inside.owes, r.owed, r.outbox, n.owed, n.outbox, b.owed, owed_is, boxes, grown, wait, more);

@@ -10,7 +10,7 @@ use Rattle.ipdl_base.specs.declared.schema.Kind.TheVariants.{Normal, Constructor
 use Rattle.channel_model.specs.Ends.{PromiseEntry}
 use Rattle.channel_model.specs.Falls.{deletes, fall_lines, why_deleted}
 use Rattle.channel_model.specs.Outputs.{Output, lines}
-use Rattle.end_parts.specs.Deletions.{HasDeleted}
+use Rattle.end_steps.specs.Deletions.{HasDeleted}
 use Rattle.end_parts.specs.OutputView.{OutputView}
 use Rattle.end_parts.specs.PromiseRequests.{pending_in}
 use Rattle.channel_core.specs.EndView.{EndView}

@@ -32,7 +32,8 @@ use Rattle.channel_model.specs.Ends.{End, StackEntry}
 use Rattle.channel_model.specs.Ends as model
 use Rattle.channel_model.specs.Events as event
 use Rattle.channel_model.specs.Fitting.{IsFittingDelivery}
-use Rattle.channel_model.specs.Numbers.{counting, id_of, is_constructor, is_sync_row, other}
+use Rattle.ipdl_base.specs.Sides.{other}
+use Rattle.channel_model.specs.Numbers.{counting, id_of, is_constructor, is_sync_row}
 use Rattle.channel_model.specs.Outputs.{beginning}
 use Rattle.channel_model.specs.Parts.{farewell_item, farewell_line}
 use Rattle.channel_model.specs.Refusals.{expected_id, is_replied_to, packet_refusal}
@@ -41,13 +42,13 @@ use Rattle.channel_model.proofs.FittingRequests.{request-of}
 use Rattle.channel_model.proofs.KnownSteps.{next-id}
 use Rattle.channel_model.proofs.Tests.{and-left}
 use Rattle.end_parts.specs.declared.packet.Packet.{Packet}
-use Rattle.end_parts.specs.Arrivals.{reply_answer, HasAnswered, HasEnded, HasReceivedReply, HasReceivedRequest}
+use Rattle.end_steps.specs.Arrivals.{reply_answer, HasAnswered, HasEnded, HasReceivedReply, HasReceivedRequest}
 use Rattle.end_parts.specs.OutputView.{OutputView}
 use Rattle.end_parts.specs.PacketReading.{carried, faulty, packet_read}
 use Rattle.end_parts.specs.StackDetails.{frames_in}
 use Rattle.channel_core.specs.declared.answers.DeliverAnswer.{DeliverAnswer}
 use Rattle.channel_core.specs.declared.answers.DeliverAnswer.TheVariants as answer
-use Rattle.channel_core.specs.Delivered.{answer_to, delivery_answer, told_refusal, CarriedGives, DeliverGives, IsFarewell, MayArrive, farewell}
+use Rattle.channel_core.specs.Delivered.{answer_to, delivery_answer, refusal_answer, CarriedGives, DeliverGives, IsFarewell, MayArrive, farewell}
 use Rattle.channel_core.specs.declared.end.End.TheInside.{Inside}
 use Rattle.channel_core.specs.Inside.{IsInside}
 use Rattle.channel_core.specs.EndView.{EndView}
@@ -66,7 +67,7 @@ use Rattle.channel_core.proofs.TrackLemmas.{tracks_begin}
 pub delivers : (before : EndView) (packet : Packet) (carries : model.Packet) (a : DeliverAnswer) (after : EndView) → packet_read before.schema packet ≡ carried carries → CarriedGives before carries a after → DeliverGives before packet a after
 unfolding delivery_answer
 delivers before packet carries answer.NoMemory after is h = h
-delivers before packet carries answer.Done after is h = (ap (answer_to before) is ∙ ap told_refusal h.0, record { carries = carries; is_read = is; is_step = h.1 })
+delivers before packet carries answer.Done after is h = (ap (answer_to before) is ∙ ap refusal_answer h.0, record { carries = carries; is_read = is; is_step = h.1 })
 delivers before packet carries (answer.Bad offset rule) after is h = (ap (answer_to before) is ∙ h.0, h.1)
 delivers before packet carries (answer.Stray seq) after is h = (ap (answer_to before) is ∙ h.0, h.1)
 delivers before packet carries (answer.WrongActor id number) after is h = (ap (answer_to before) is ∙ h.0, h.1)
@@ -157,7 +158,7 @@ is_awaited v row m sound may reply sync =
 
 -- What the code makes of deliveries
 
--- all that a delivery owes: the end behind it is as every end is, and it is the step
+-- all that a delivery owes: the end after it is as every end is, and it is the step
 pub record Gives (a : Inside) (s : EndView) (packet : model.Packet) (e : End) (out : OutputView) : Type 0 where
   pub inside : IsInside a.schema.now e out
   pub steps : IsStepBy s (packet ∷ []) event.deliver (seen_as (seen_in a) e out)

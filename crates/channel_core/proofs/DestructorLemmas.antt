@@ -16,7 +16,7 @@ use Rattle.channel_model.specs.Outputs.{Output, beginning, line, put}
 use Rattle.channel_model.specs.Parts.{sent_end, outbox_after, promise_for}
 use Rattle.channel_model.specs.Sends.{names_actor, constructs, posted_by, send_line, wait_for}
 use Rattle.channel_model.proofs.SoundRows.{IsAt}
-use Rattle.end_parts.specs.Deletions.{HasDeleted}
+use Rattle.end_steps.specs.Deletions.{HasDeleted}
 use Rattle.end_parts.specs.OutputView.{OutputView}
 use Rattle.end_parts.specs.PromiseRequests.{pending_in}
 use Rattle.channel_core.specs.Inside.{IsInside}
@@ -51,7 +51,7 @@ bare v row m vs name a sound kind =
       lazy = not-lazy row row.lazy refl kind (λ e. (at.sound.lazy e).1);
     }
 
--- the end behind its packet
+-- the end after its packet
 abbrev gone : End → End
 gone e = record e { sent = e.sent + 1; outbox = [] }
 

@@ -15,10 +15,10 @@ use Rattle.channel_model.specs.Parts.{left_end, owes_reply}
 use Rattle.channel_model.specs.Steps.{step}
 use Rattle.channel_model.specs.Takes.{dropped_or_handled}
 use Rattle.channel_model.specs.ValueActors.{nulled}
-use Rattle.end_parts.specs.declared.answer_packet.AnswerPacket.{AnswerPacket}
-use Rattle.end_parts.specs.AnswerPackets.{OwedAnswer, owed_if, with_answer_packet}
+use Rattle.end_steps.specs.declared.answer_packet.AnswerPacket.{AnswerPacket}
+use Rattle.end_steps.specs.AnswerPackets.{OwedAnswer, owed_if, with_answer_packet}
 use Rattle.end_parts.specs.OutputView.{OutputView, with_line}
-use Rattle.end_parts.specs.TakenItems.{owed_by_drop}
+use Rattle.end_steps.specs.TakenItems.{owed_by_drop}
 use Rattle.channel_core.specs.Inside.{IsInside}
 use Rattle.channel_core.specs.NextItems.{IsNextDrop}
 use Rattle.channel_core.specs.Room.{room}
@@ -39,7 +39,7 @@ pub record CodeDrops (v : EndView) (out mid said told : OutputView) (m : Message
   pub says : said ≡ with_line mid (line_at v.end.side (what.Drop m.seq m.route m.number id))
   pub puts : told ≡ with_answer_packet v.end.side packet said
 
--- the end behind it
+-- the end after it
 abbrev pub dropped_with : End → List Item → OutputView → End
 dropped_with e items out = record e { arrived = map plain_item items; outbox = out.outbox }
 

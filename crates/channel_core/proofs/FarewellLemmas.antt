@@ -25,8 +25,8 @@ use Rattle.channel_model.specs.Outputs.{Output, beginning, line, line_at, lines,
 use Rattle.channel_model.specs.Parts.{drained_end, farewell_item, farewell_line}
 use Rattle.channel_model.specs.Refusals.{body_refusal, packet_refusal}
 use Rattle.channel_model.specs.States.{is_farewell, is_goodbye}
-use Rattle.end_parts.specs.Arrivals.{HasEnded}
-use Rattle.end_parts.specs.FailedWaits.{unanswered_in}
+use Rattle.end_steps.specs.Arrivals.{HasEnded}
+use Rattle.end_steps.specs.FailedWaits.{unanswered_in}
 use Rattle.end_parts.specs.OutputView.{OutputView, with_line}
 use Rattle.channel_core.specs.Delivered.{IsFarewell, farewell}
 use Rattle.channel_core.specs.Inside.{IsInside}

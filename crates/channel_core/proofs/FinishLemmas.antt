@@ -28,12 +28,12 @@ use Rattle.channel_model.proofs.FittingEnds.{entry-resolver}
 use Rattle.channel_model.proofs.FittingParts.{return-fits}
 use Rattle.channel_model.proofs.FittingRequests.{promised-fault, sync-reply}
 use Rattle.channel_model.proofs.SendParts.{request-number}
-use Rattle.end_parts.specs.declared.answer_packet.AnswerPacket.{AnswerPacket}
-use Rattle.end_parts.specs.AnswerPackets.{OwedAnswer, FitsOwed, IsPacketFor, owed_by_return, owed_if, with_answer_packet}
-use Rattle.end_parts.specs.Deletions.{HasDeleted}
+use Rattle.end_steps.specs.declared.answer_packet.AnswerPacket.{AnswerPacket}
+use Rattle.end_steps.specs.AnswerPackets.{OwedAnswer, FitsOwed, IsPacketFor, owed_by_return, owed_if, with_answer_packet}
+use Rattle.end_steps.specs.Deletions.{HasDeleted}
 use Rattle.end_parts.specs.OutputView.{OutputView, with_line}
 use Rattle.end_parts.specs.PromiseRequests.{pending_in}
-use Rattle.end_parts.proofs.RenamingLemmas.{request-small}
+use Rattle.end_steps.proofs.RenamingLemmas.{request-small}
 use Rattle.channel_core.specs.Inside.{IsInside, IsKept}
 use Rattle.channel_core.specs.Room.{room, waits_in}
 use Rattle.channel_core.specs.EndView.{EndView}
@@ -83,7 +83,7 @@ pub record CodeReturns (v : EndView) (out mid said told out' : OutputView) (entr
   pub puts : told ≡ with_answer_packet v.end.side packet said
   pub deletes : HasDeleted row.kind v.end.side entry.route v.end.actors v.end.promises told actors promises out'
 
--- the end behind it
+-- the end after it
 abbrev pub returned_with : End → List StackEntry → List Actor → List PromiseEntry → OutputView → End
 returned_with e stack actors promises out = record e { actors = actors; stack = stack; promises = promises; outbox = out.outbox }
 
@@ -142,9 +142,9 @@ module _ (v : EndView) (vs : Option Values) (entry : StackEntry) (row : MessageR
       let t1 : Tracks v (popped (beginning v.end)) mid = tracks_end v (beginning v.end) mid (λ (e : End). record e { stack = drop 1 e.stack }) t0 refl in
       let t2 : Tracks v spoken said = tracks_line v (popped (beginning v.end)) mid said (what.Return (head_of entry.frame).seq) t1 h.says in
       let t3 : Tracks v (answers_owed owed spoken) told = tracks_owed v spoken said told owed packet p t2 h.puts in
-      let behind : (answers_owed owed spoken).end ≡ record spoken.end { outbox = (answers_owed owed spoken).end.outbox } = owed_end owed spoken in
+      let following : (answers_owed owed spoken).end ≡ record spoken.end { outbox = (answers_owed owed spoken).end.outbox } = owed_end owed spoken in
       let gone : HasDeleted row.kind (answers_owed owed spoken).end.side entry.route (answers_owed owed spoken).end.actors (answers_owed owed spoken).end.promises told actors promises out' =
-      subst (λ (e : End). HasDeleted row.kind e.side entry.route e.actors e.promises told actors promises out') (sym behind) h.deletes in
+      subst (λ (e : End). HasDeleted row.kind e.side entry.route e.actors e.promises told actors promises out') (sym following) h.deletes in
       let d : Deletes v (answers_owed owed spoken) row.kind entry.route actors promises out' = tracks_deleted v (answers_owed owed spoken) row.kind entry.route told actors promises out' t3 gone in
       record {
         output = deletes entry.route row.kind (answers_owed owed spoken);
@@ -152,7 +152,7 @@ module _ (v : EndView) (vs : Option Values) (entry : StackEntry) (row : MessageR
         tracks = d.tracks;
         ends =
             rw (h.pops, d.tracks.outbox ∙ ap (λ (x : End). x.outbox) (sym d.ends))
-            (ap (λ (e : End). record e { actors = actors; promises = promises }) (sym behind) ∙ d.ends);
+            (ap (λ (e : End). record e { actors = actors; promises = promises }) (sym following) ∙ d.ends);
       }
 
   -- there is room for a fall

@@ -59,7 +59,7 @@ plain_framed schema m frame f =
     let size = body_size-plain NEW schema (message_of schema m.number) m.body in
     record { frame = record { fits = (fits schema m).1 f.fits; small = omega (arith, f.small, size); spelled = refl }; plain = message-again m }
 
--- values of an answer that a plain line tells are plain
+-- values of an answer in a plain line are plain
 told-plain : (w : What) (seq : ℤ) (vs : Values) → plain_what w ≡ what.AnswerOk seq vs → plain_values vs ≡ vs
 told-plain (what.AnswerOk n ws) seq vs h =
     let same : plain_values ws ≡ vs = cc in

@@ -15,7 +15,7 @@ use Rattle.channel_model.specs.Parts.{left_end}
 use Rattle.channel_model.specs.Steps.{step}
 use Rattle.channel_model.specs.Takes.{dispatch_of, dropped_or_handled, handled}
 use Rattle.channel_model.specs.ValueActors.{nulled}
-use Rattle.end_parts.specs.BuiltActors.{with_built, with_built_line}
+use Rattle.end_steps.specs.BuiltActors.{with_built, with_built_line}
 use Rattle.end_parts.specs.OutputView.{OutputView, with_line}
 use Rattle.channel_core.specs.Inside.{IsInside}
 use Rattle.channel_core.specs.NextItems.{IsNextHandling}
@@ -39,7 +39,7 @@ pub record CodeHandles (v : EndView) (out mid said out' : OutputView) (m : Messa
   pub builds : out' ≡ with_built_line v.end.side built said
   pub dispatch : stack ≡ dispatch_of row m ∷ v.end.stack
 
--- the end behind it
+-- the end after it
 abbrev pub handled_with : End → List Actor → List Item → List StackEntry → OutputView → End
 handled_with e actors items stack out = record e { actors = actors; arrived = map plain_item items; stack = stack; outbox = out.outbox }
 

@@ -1,4 +1,5 @@
--- What the code has made of a step: with its output, the end behind it and the room that is left, all that a call says.
+-- What the code has made of a step: with its output, the end after it and the room that is left, all that a call
+-- promises.
 use Rattle.std.proofs.Common.{◌≡◌, suc, ◌≤◌, true, List, length, Some, ap, sym, subst}
 use Rattle.ipdl_base.specs.declared.schema.Schema.{Schema}
 use Rattle.channel_model.specs.Acts.{goodbye}
@@ -39,7 +40,7 @@ seen_as v e out = record { end = e; schema = v.schema; lines = out.lines; packet
 pub made_step : (v : EndView) (link : List model.Packet) (event : Event) (e : End) (out : OutputView) → Made v link event e out → IsStepBy v link event (seen_as v e out)
 made_step v link event e out m = is_step v (seen_as v e out) link event m.output out m.steps m.tracks (ap (λ (x : End). seen_as v x out) m.ends)
 
--- and the invariant is kept, where at most 2^28 requests are sent behind it
+-- and the invariant is kept, where at most 2^28 requests are sent after it
 pub made_inside : (v : EndView) (link : List model.Packet) (event : Event) (e : End) (out out' : OutputView) → Made v link event e out' → IsInside v.schema v.end out → e.sent ≤ 268435456 → IsFittingDelivery v.schema v.end link event → HasRoom v.schema e out' → IsInside v.schema e out'
 made_inside v link event e out out' m inside few fits r = record {
   sound = inside.sound;

@@ -21,7 +21,7 @@ use Rattle.channel_model.proofs.FittingRequests.{request-of}
 use Rattle.channel_model.proofs.FittingValues.{lives-fits}
 use Rattle.channel_model.proofs.KnownSteps.{first-known, KnownIn}
 use Rattle.channel_model.proofs.SendParts.{lives-as}
-use Rattle.end_parts.specs.BuiltActors.{built_by, with_built, IsFree}
+use Rattle.end_steps.specs.BuiltActors.{built_by, with_built, IsFree}
 use Rattle.channel_core.specs.Inside.{IsKept}
 use Rattle.channel_core.specs.NextItems.{IsNextHandling}
 use Rattle.channel_core.specs.EndView.{EndView}

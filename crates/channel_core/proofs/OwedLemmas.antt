@@ -6,9 +6,9 @@ use Rattle.ipdl_base.specs.declared.message.Message.{Message}
 use Rattle.nesting_core.specs.declared.frame.Answer.{Answer}
 use Rattle.channel_model.specs.Ends.{message}
 use Rattle.channel_model.specs.Outputs.{AnsweredRequest, Change, Output, ◌▷◌, answer_line, answered, body_of, is_open, line, line_at, put, reply_to, unchanged, when}
-use Rattle.end_parts.specs.declared.answer_packet.AnswerPacket.{AnswerPacket}
+use Rattle.end_steps.specs.declared.answer_packet.AnswerPacket.{AnswerPacket}
 use Rattle.end_parts.specs.declared.packet.Packet.TheVariants.{Bytes}
-use Rattle.end_parts.specs.AnswerPackets.{OwedAnswer, IsPacketFor, owed_if, with_answer_packet}
+use Rattle.end_steps.specs.AnswerPackets.{OwedAnswer, IsPacketFor, owed_if, with_answer_packet}
 use Rattle.end_parts.specs.OutputView.{OutputView, with_line, with_packet}
 use Rattle.end_parts.specs.PlainLines.{plain_what}
 use Rattle.channel_core.specs.EndView.{EndView, HasFrame}
@@ -35,7 +35,7 @@ either_owed true true b q r a c o is one = let bad : true ≡ false = one refl i
 either_owed true false b q r a c o is one = answered_owed true b q a o is
 either_owed false lost b q r a c o is one = answered_owed lost b r c o is
 
--- the end behind it has lost its outbox at most
+-- the end after it has lost its outbox at most
 pub owed_end : (owed : Option OwedAnswer) (o : Output) → (answers_owed owed o).end ≡ record o.end { outbox = (answers_owed owed o).end.outbox }
 owed_end None o = refl
 owed_end (Some owed) o = refl

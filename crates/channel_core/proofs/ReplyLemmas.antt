@@ -31,7 +31,7 @@ use Rattle.channel_model.specs.Steps.{step, provided}
 use Rattle.channel_model.specs.ValueActors.{has_dead}
 use Rattle.channel_model.proofs.FittingParts.{used, answer-fits}
 use Rattle.channel_model.proofs.PlainValues.{plain_forms_commute}
-use Rattle.end_parts.specs.Refusals.{answer_refusal_by, reply_refusal_by}
+use Rattle.end_steps.specs.Refusals.{answer_refusal_by, reply_refusal_by}
 use Rattle.end_parts.specs.Replies.{line_of_reply}
 use Rattle.channel_core.specs.Answers.{refusal_of_answer}
 use Rattle.channel_core.specs.declared.end.answering.ReplyCheck.{ReplyCheck}
@@ -89,7 +89,7 @@ refusal-found v row by vs number found =
     ap (λ (x : Option MessageRow). option_and_then (λ row. answer_refusal_by (is_open v.end.state) v.schema v.end.actors row (reply_by (option_map resolver_answered (resolver_used v.end by)) vs)) x) found
     ∙ refusal-by v.schema v.end row vs (resolver_used v.end by)
 
--- so a check of the reply finds what the definitions say
+-- so a check of the reply finds what the definitions give
 pub check-so : (v : EndView) (number : ℕ) (row : MessageRow) (q : Option AnsweredRequest) (vs : Option Values) (reply : Option Message) (cause : Option SendRefusal) (check : ReplyCheck) → message_of v.schema number ≡ Some row → option_map plain_message reply ≡ reply_by q vs
     → cause ≡ answer_refusal_by (is_open v.end.state) v.schema v.end.actors row reply → IsCheckOf cause reply check → IsReplyCheck v number q vs check
 check-so v number row q vs reply cause check found made refused is = by check is

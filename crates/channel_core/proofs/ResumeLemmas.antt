@@ -1,4 +1,4 @@
--- A call that goes on.
+-- Calls that resume.
 use Rattle.std.proofs.Common.{◌≡◌, ℕ, suc, ◌+◌, ◌-◌, ◌<◌, true, List, [], ◌∷◌, drop, length, Option, Some, None, refl, ap, sym, subst, ◌∙◌, arith}
 use Rattle.std.specs.List.{AllByRecursion}
 use Rattle.std.specs.Option.{option_map, option_map_or, option_and_then}
@@ -96,7 +96,7 @@ resumes v out call row answer what stack said paid t inside c =
       ends = ap (λ (s : List StackEntry). record v.end { stack = s; outbox = paid.outbox }) c.off.1 ∙ ap (λ (ms : List Message). record v.end { stack = drop 1 v.end.stack; outbox = ms }) t2.outbox;
     }
 
--- the answer is that with which the call goes on
+-- the answer is that with which the call resumes
 pub resumes_with : (v : EndView) (out : OutputView) (call : ResumedCall) (row : MessageRow) (answer : Answer) (what : What) (stack : List StackEntry) (said paid : OutputView) → IsInside v.schema v.end out → CodeResumes v out call row answer what stack said paid
     → resumed_with v (wait_of call) ≡ Some (plain_answer answer)
 unfolding resumed_with

@@ -20,7 +20,7 @@ use Rattle.channel_model.specs.Parts.{sent_end, outbox_after, promise_for}
 use Rattle.channel_model.specs.Sends.{sent, posted_by, names_actor, constructs, send_line, wait_for}
 use Rattle.end_parts.specs.OutputView.{OutputView, with_line, with_packet, with_lazy}
 use Rattle.end_parts.specs.PromiseRequests.{pending_in}
-use Rattle.end_parts.specs.SentRequests.{stack_behind, promises_behind}
+use Rattle.end_steps.specs.SentRequests.{stack_after, promises_after}
 use Rattle.channel_core.specs.Inside.{IsInside}
 use Rattle.channel_core.specs.Room.{room, waits_in}
 use Rattle.channel_core.specs.EndView.{EndView, frame_packet, HasFrame}
@@ -32,7 +32,7 @@ use Rattle.channel_core.proofs.TrackLemmas.{tracks_line, tracks_put, tracks_lazy
 
 -- What every request does
 
--- the output when its line is said, it is posted, and its wait or promise is there
+-- the output when its line is printed, it is posted, and its wait or promise is there
 abbrev pub first : MessageRow → Message → Values → End → Output
 first row m vs e = record (posted_by row.lazy m (line (send_line row m vs) (beginning e))) { end = sent_end row m e }
 
@@ -173,8 +173,8 @@ lazy_async v row m vs name a sound lazy = ap is_sync (((row_sound v row m vs nam
 pub record CodeSends (v : EndView) (row : MessageRow) (m : Message) (vs : Values) (out mid said posted owed : OutputView) (stack : List StackEntry) (promises : List PromiseEntry) : Type 0 where
   pub posts : CodePosts v row m vs out mid said posted
   pub owes : owed ≡ record posted { lines_owed = posted.lines_owed + 2 }
-  pub waits : stack ≡ stack_behind row m v.end.stack
-  pub promised : promises ≡ promises_behind row m v.end.promises
+  pub waits : stack ≡ stack_after row m v.end.stack
+  pub promised : promises ≡ promises_after row m v.end.promises
   pub lines : out.lines_owed + 3 ≤ mid.line_spare
   pub packets : length out.frames + 2 ≤ mid.packet_spare
 
@@ -185,7 +185,7 @@ sent_with e stack promises out = record e { sent = e.sent + 1; stack = stack; pr
 nothing_follows : (row : MessageRow) (m : Message) (name : Option (List ℕ)) (o : Output) → row.kind ≡ Normal → name ≡ None → deletes m.route row.kind (constructs m.made m.route row.kind (names_actor m.made name o)) ≡ o
 nothing_follows row m name o kind none = rw (kind, none) refl
 
-ends_so : (row : MessageRow) (m : Message) (e : End) (out : OutputView) (stack : List StackEntry) (promises : List PromiseEntry) → row.kind ≡ Normal → out.outbox ≡ outbox_after row.lazy m e.outbox → stack ≡ stack_behind row m e.stack → promises ≡ promises_behind row m e.promises → sent_with e stack promises out ≡ sent_end row m e
+ends_so : (row : MessageRow) (m : Message) (e : End) (out : OutputView) (stack : List StackEntry) (promises : List PromiseEntry) → row.kind ≡ Normal → out.outbox ≡ outbox_after row.lazy m e.outbox → stack ≡ stack_after row m e.stack → promises ≡ promises_after row m e.promises → sent_with e stack promises out ≡ sent_end row m e
 ends_so row m e out stack promises kind box s p =
     rw (s, p, box) (ap (λ (k : Kind). record (sent_end row m e) { constructors_sent = counting k e.constructors_sent }) (sym kind))
 
@@ -210,8 +210,8 @@ send_room v row m vs out mid said posted owed stack promises a box inside c =
     let spare : owed.line_spare ≡ posted.line_spare = ap (λ (g : OutputView). g.line_spare) c.owes in
     let boxes : length owed.outbox ≡ length posted.outbox = ap (λ (g : OutputView). length g.outbox) c.owes in
     let before : length out.outbox ≡ length v.end.outbox = ap length box in
-    let pend : pending_in promises ≡ pending_in (promises_behind row m v.end.promises) = ap pending_in c.promised in
-    let wait : waits_in stack ≡ waits_in (stack_behind row m v.end.stack) = ap waits_in c.waits in
+    let pend : pending_in promises ≡ pending_in (promises_after row m v.end.promises) = ap pending_in c.promised in
+    let wait : waits_in stack ≡ waits_in (stack_after row m v.end.stack) = ap waits_in c.waits in
     let more = owed_at (is_sync_row row) (is_some row.returns) row.lazy row m v.end.stack v.end.promises (lazy_async v row m vs None a inside.sound) in
     let frames : length owed.frames ≡ length posted.frames = ap (λ (g : OutputView). length g.frames) c.owes in
     let packet_room : owed.packet_spare ≡ posted.packet_spare = ap (λ (g : OutputView). g.packet_spare) c.owes in

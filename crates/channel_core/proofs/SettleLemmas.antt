@@ -29,12 +29,12 @@ use Rattle.channel_model.specs.Requests.{promise_seq}
 use Rattle.channel_model.specs.Steps.{step}
 use Rattle.channel_model.specs.Takes.{body_taken, is_awaited, outcome_of, reply_taken, settle_line, settled_entry, settles, taken_next}
 use Rattle.channel_model.specs.ValueActors.{received}
-use Rattle.end_parts.specs.AnswerPackets.{answer_in, IsAnswering}
+use Rattle.end_steps.specs.AnswerPackets.{answer_in, IsAnswering}
 use Rattle.end_parts.specs.CopiedAnswers.{values_of}
 use Rattle.end_parts.specs.OutputView.{OutputView, with_line}
 use Rattle.end_parts.specs.PromiseRequests.{pending_in}
-use Rattle.end_parts.specs.TakenItems.{with_settling}
-use Rattle.end_parts.specs.RequestPlans.{IsCopyOfItem, IsReplyItem}
+use Rattle.end_steps.specs.TakenItems.{with_settling}
+use Rattle.end_steps.specs.RequestPlans.{IsCopyOfItem, IsReplyItem}
 use Rattle.channel_core.specs.declared.end.taking.ItemKind.TheVariants as kind
 use Rattle.channel_core.specs.Inside.{IsInside}
 use Rattle.channel_core.specs.NextItems.{kind_of_item, values_in, IsNextMessage, IsNextReply}
@@ -180,7 +180,7 @@ pub record CodeSettles (v : EndView) (out mid said out' : OutputView) (m : Messa
   pub settled : promises ≡ map (settled_entry m.seq (outcome_of (received v.schema v.end.actors row (answer_in m.body)))) v.end.promises
   pub told : out' ≡ with_settling (is_awaited m.seq v.end.promises) v.end.side (settle_line m.seq (outcome_of (received v.schema v.end.actors row (answer_in m.body)))) said
 
--- the end behind it
+-- the end after it
 abbrev pub settled_with : End → List PromiseEntry → List Item → OutputView → End
 settled_with e promises items out = record e { arrived = map plain_item items; promises = promises; outbox = out.outbox }
 

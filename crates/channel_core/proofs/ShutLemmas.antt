@@ -20,7 +20,7 @@ use Rattle.channel_model.specs.Parts.{left_end}
 use Rattle.channel_model.specs.Steps.{step}
 use Rattle.channel_model.specs.Takes.{body_taken, item_taken, taken_next, takes_in_state}
 use Rattle.channel_model.proofs.Tests.{and-left}
-use Rattle.end_parts.specs.Falls.{HasClosed}
+use Rattle.end_steps.specs.Falls.{HasClosed}
 use Rattle.end_parts.specs.OutputView.{OutputView, with_line}
 use Rattle.end_parts.specs.PromiseRequests.{pending_in}
 use Rattle.channel_core.specs.declared.end.taking.Farewell.{Farewell}

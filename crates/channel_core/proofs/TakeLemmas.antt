@@ -15,11 +15,11 @@ use Rattle.ipdl_base.specs.declared.line.What.TheVariants as what
 use Rattle.ipdl_base.specs.Plain.{plain_body, plain_message, plain_values}
 use Rattle.ipdl_base.specs.Sound.{message_of}
 use Rattle.nesting_core.specs.Top.{top_of}
-use Rattle.pending_queue.specs.declared.holding.Holding.{Holding}
+use Rattle.pending_queue.specs.declared.deferral_context.DeferralContext.{DeferralContext}
 use Rattle.pending_queue.specs.declared.item.Item.{Item}
 use Rattle.pending_queue.specs.declared.item.Item.TheVariants as item
 use Rattle.pending_queue.specs.Compression.{is_request}
-use Rattle.pending_queue.specs.Holding.{is_free, without_first}
+use Rattle.pending_queue.specs.DeferralContext.{is_free, without_first}
 use Rattle.pending_queue.specs.Plain.{plain_item}
 use Rattle.pending_queue.proofs.PlainLemmas as plain
 use Rattle.value_types.specs.Laws.{BoxesSayNothing}
@@ -29,13 +29,13 @@ use Rattle.channel_model.specs.Outputs.{Output, beginning, is_open, line, on_end
 use Rattle.channel_model.specs.Parts.{left_end}
 use Rattle.channel_model.specs.Sends.{frames_of}
 use Rattle.channel_model.specs.Steps.{step, provided}
-use Rattle.channel_model.specs.Takes.{body_taken, holding_of, request_taken, take, taken_next, takes_in_state, takes_under}
+use Rattle.channel_model.specs.Takes.{body_taken, deferral_context_of, request_taken, take, taken_next, takes_in_state, takes_under}
 use Rattle.channel_model.specs.Fitting.{FitsItem, IsFitting}
 use Rattle.channel_model.proofs.FittingEnds.{taken-fits}
-use Rattle.end_parts.specs.AnswerPackets.{IsAnswering}
-use Rattle.end_parts.specs.declared.answer_packet.AnswerPacket.{AnswerPacket}
-use Rattle.end_parts.specs.declared.request_plan.RequestPlan.TheVariants as plan
-use Rattle.end_parts.specs.RequestPlans.{IsFittingRequest, IsPlanOf, IsReplyItem, IsMessage, IsTakenMessage}
+use Rattle.end_steps.specs.AnswerPackets.{IsAnswering}
+use Rattle.end_steps.specs.declared.answer_packet.AnswerPacket.{AnswerPacket}
+use Rattle.end_steps.specs.declared.request_plan.RequestPlan.TheVariants as plan
+use Rattle.end_steps.specs.RequestPlans.{IsFittingRequest, IsPlanOf, IsReplyItem, IsMessage, IsTakenMessage}
 use Rattle.channel_core.specs.declared.end.taking.ItemKind.{ItemKind}
 use Rattle.channel_core.specs.declared.end.taking.ItemKind.TheVariants as kind
 use Rattle.channel_core.specs.NextItems.{kind_of_body, kind_of_item, next_kind, IsNextDrop, IsNextHandling, IsNextMessage}
@@ -47,10 +47,10 @@ abbrev pub may_take : End → Bool
 may_take e = takes_in_state e.state && takes_under (top_of (frames_of e))
 
 -- what is free of the items, with their boxes at one place
-pub first_plain : (h : Holding) (items : List Item) → find (is_free h) (map plain_item items) ≡ option_map plain_item (find (is_free h) items)
+pub first_plain : (h : DeferralContext) (items : List Item) → find (is_free h) (map plain_item items) ≡ option_map plain_item (find (is_free h) items)
 first_plain h items = plain.plain_forms_commute.first_free h items
 
-pub rest_plain : (h : Holding) (items : List Item) → without_first (is_free h) (map plain_item items) ≡ map plain_item (without_first (is_free h) items)
+pub rest_plain : (h : DeferralContext) (items : List Item) → without_first (is_free h) (map plain_item items) ≡ map plain_item (without_first (is_free h) items)
 rest_plain h items = plain.plain_forms_commute.without_first_free h items
 
 taking_at : (b : Bool) (found : Option Item) (k : ItemKind) → option_map kind_of_item (if b then found else None) ≡ Some k → (b ≡ true) × (option_map kind_of_item found ≡ Some k)
@@ -68,11 +68,11 @@ pub record IsFirst (v : EndView) (found : Option Item) (k : ItemKind) : Type 0 w
   pub next : taken_next v.end ≡ Some (plain_item x)
   pub kind : kind_of_item (plain_item x) ≡ k
 
-pub is_first : (v : EndView) (h : Holding) (items : List Item) (k : ItemKind) → v.end.arrived ≡ map plain_item items → h ≡ holding_of v.end → next_kind v ≡ Some k → IsFirst v (find (is_free h) items) k
+pub is_first : (v : EndView) (h : DeferralContext) (items : List Item) (k : ItemKind) → v.end.arrived ≡ map plain_item items → h ≡ deferral_context_of v.end → next_kind v ≡ Some k → IsFirst v (find (is_free h) items) k
 is_first v h items k a is e = at (find (is_free h) items) refl
   where
-    free : find (is_free (holding_of v.end)) v.end.arrived ≡ option_map plain_item (find (is_free h) items)
-    free = ap (λ (x : Holding). find (is_free x) v.end.arrived) (sym is) ∙ ap (find (is_free h)) a ∙ first_plain h items
+    free : find (is_free (deferral_context_of v.end)) v.end.arrived ≡ option_map plain_item (find (is_free h) items)
+    free = ap (λ (x : DeferralContext). find (is_free x) v.end.arrived) (sym is) ∙ ap (find (is_free h)) a ∙ first_plain h items
 
     kinds : option_map kind_of_item (option_map plain_item (find (is_free h) items)) ≡ Some k
     kinds = ap (option_map kind_of_item) (sym free) ∙ (taking_at (may_take v.end) _ k e).1
@@ -82,7 +82,7 @@ is_first v h items k a is e = at (find (is_free h) items) refl
     at (Some x) f = record {
       x = x;
       is = refl;
-      next = ap (λ (b : Bool). if b then find (is_free (holding_of v.end)) v.end.arrived else None) (taking v k e) ∙ free ∙ ap (option_map plain_item) f;
+      next = ap (λ (b : Bool). if b then find (is_free (deferral_context_of v.end)) v.end.arrived else None) (taking v k e) ∙ free ∙ ap (option_map plain_item) f;
       kind = same_Some (kind_of_item (plain_item x)) k (ap (λ (y : Option Item). option_map kind_of_item (option_map plain_item y)) (sym f) ∙ kinds);
     }
 
@@ -132,9 +132,9 @@ request_steps v m row vs n body found =
     ∙ ap (λ (r : Option MessageRow). Some (option_map_or (request_taken v.schema m vs) r (line (what.Drop m.seq m.route m.number m.route)) (left v.end))) found
 
 -- the code's queue when an item has left
-pub left_items : (v : EndView) (h : Holding) (items items' : List Item) → v.end.arrived ≡ map plain_item items → h ≡ holding_of v.end → items' ≡ without_first (is_free h) items → map plain_item items' ≡ (left_end v.end).arrived
+pub left_items : (v : EndView) (h : DeferralContext) (items items' : List Item) → v.end.arrived ≡ map plain_item items → h ≡ deferral_context_of v.end → items' ≡ without_first (is_free h) items → map plain_item items' ≡ (left_end v.end).arrived
 left_items v h items items' a is e =
-    ap (map plain_item) e ∙ sym (rest_plain h items) ∙ ap (without_first (is_free h)) (sym a) ∙ ap (λ (x : Holding). without_first (is_free x) v.end.arrived) is
+    ap (map plain_item) e ∙ sym (rest_plain h items) ∙ ap (without_first (is_free h)) (sym a) ∙ ap (λ (x : DeferralContext). without_first (is_free x) v.end.arrived) is
 
 -- where boxes lie does not matter for what an item is
 pub kind_plain : (x : Item) → kind_of_item (plain_item x) ≡ kind_of_item x
@@ -148,10 +148,10 @@ kind_plain (item.Message m sync level) = by m.body
     by Goodbye = refl
 
 -- what the code finds is what is taken next
-pub kind_found : (v : EndView) (h : Holding) (items : List Item) (found : Option Item) → v.end.arrived ≡ map plain_item items → h ≡ holding_of v.end → may_take v.end ≡ true → find (is_free h) items ≡ found → next_kind v ≡ option_map kind_of_item (option_map plain_item found)
+pub kind_found : (v : EndView) (h : DeferralContext) (items : List Item) (found : Option Item) → v.end.arrived ≡ map plain_item items → h ≡ deferral_context_of v.end → may_take v.end ≡ true → find (is_free h) items ≡ found → next_kind v ≡ option_map kind_of_item (option_map plain_item found)
 kind_found v h items found a is may f =
-    ap (λ (b : Bool). option_map kind_of_item (if b then find (is_free (holding_of v.end)) v.end.arrived else None)) may
-    ∙ ap (λ (x : Holding). option_map kind_of_item (find (is_free x) v.end.arrived)) (sym is) ∙ ap (λ (xs : List Item). option_map kind_of_item (find (is_free h) xs)) a
+    ap (λ (b : Bool). option_map kind_of_item (if b then find (is_free (deferral_context_of v.end)) v.end.arrived else None)) may
+    ∙ ap (λ (x : DeferralContext). option_map kind_of_item (find (is_free x) v.end.arrived)) (sym is) ∙ ap (λ (xs : List Item). option_map kind_of_item (find (is_free h) xs)) a
     ∙ ap (option_map kind_of_item) (first_plain h items) ∙ ap (λ (x : Option Item). option_map kind_of_item (option_map plain_item x)) f
 
 taken_at : (found : Option Item) (m taken : Message) (sync : Bool) (level : Level) → option_map plain_item found ≡ Some (item.Message m sync level) → (IsMessage found) × (IsTakenMessage found taken → plain_message taken ≡ m)
@@ -162,10 +162,10 @@ taken_at (Some (item.Message x s l)) m taken sync level e = (tt, λ h. ap plain_
     same_message : (a b : Message) (s t : Bool) (l k : Level) → item.Message a s l ≡ item.Message b t k → a ≡ b
     same_message a b s t l k e = cc
 
-pub taken_message : (v : EndView) (h : Holding) (items : List Item) (m taken : Message) → v.end.arrived ≡ map plain_item items → h ≡ holding_of v.end → IsNextMessage v m → (IsMessage (find (is_free h) items)) × (IsTakenMessage (find (is_free h) items) taken → plain_message taken ≡ m)
+pub taken_message : (v : EndView) (h : DeferralContext) (items : List Item) (m taken : Message) → v.end.arrived ≡ map plain_item items → h ≡ deferral_context_of v.end → IsNextMessage v m → (IsMessage (find (is_free h) items)) × (IsTakenMessage (find (is_free h) items) taken → plain_message taken ≡ m)
 taken_message v h items m taken a is n =
-    let free : find (is_free (holding_of v.end)) v.end.arrived ≡ Some (item.Message m n.sync n.level) = free_at (may_take v.end) _ n.next in
-    let here : option_map plain_item (find (is_free h) items) ≡ Some (item.Message m n.sync n.level) = sym (first_plain h items) ∙ ap (find (is_free h)) (sym a) ∙ ap (λ (x : Holding). find (is_free x) v.end.arrived) is ∙ free in
+    let free : find (is_free (deferral_context_of v.end)) v.end.arrived ≡ Some (item.Message m n.sync n.level) = free_at (may_take v.end) _ n.next in
+    let here : option_map plain_item (find (is_free h) items) ≡ Some (item.Message m n.sync n.level) = sym (first_plain h items) ∙ ap (find (is_free h)) (sym a) ∙ ap (λ (x : DeferralContext). find (is_free x) v.end.arrived) is ∙ free in
     taken_at (find (is_free h) items) m taken n.sync n.level here
   where
     free_at : (b : Bool) (found : Option Item) {x : Item} → (if b then found else None) ≡ Some x → found ≡ Some x

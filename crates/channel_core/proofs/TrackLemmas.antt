@@ -63,7 +63,7 @@ framed-messages schema (m ∷ ms) h = (h.0, framed-messages schema ms h.1)
 waits : (v : EndView) (o : Output) (out : OutputView) → Tracks v o out → AllByRecursion (HasFrame v.schema) o.end.outbox
 waits v o out t = subst (AllByRecursion (HasFrame v.schema)) t.outbox t.waiting
 
--- a packet that is framed, behind the outbox
+-- a packet that is framed, after the outbox
 pub tracks_put : (v : EndView) (o : Output) (out out' : OutputView) (packet : model.Packet) → IsFramed v.schema packet → Tracks v o out → out' ≡ with_packet out (packet_of v.schema packet) → Tracks v (put packet o) out'
 tracks_put v o out out' packet framed t e = rw e (record {
   lines = t.lines;
@@ -118,6 +118,6 @@ pub is_step : (v w : EndView) (link : List model.Packet) (event : Event) (o : Ou
 is_step v w link event o out s t e = record {
   output = o;
   is_step = s;
-  is_behind = e ∙ ap (λ (ls : List Line). record { end = o.end; schema = v.schema; lines = ls; packets = out.packets }) t.lines ∙ ap (λ (ps : List Packet). record { end = o.end; schema = v.schema; lines = v.lines ++ o.lines; packets = ps }) t.packets;
+  is_after = e ∙ ap (λ (ls : List Line). record { end = o.end; schema = v.schema; lines = ls; packets = out.packets }) t.lines ∙ ap (λ (ps : List Packet). record { end = o.end; schema = v.schema; lines = v.lines ++ o.lines; packets = ps }) t.packets;
   framed = t.framed;
 }

@@ -88,7 +88,7 @@ abbrev pub FinishGives : EndView → Option Resolver → Option Values → Finis
 FinishGives before r vs finish.Done after = IsStep before (event.return vs) after
 FinishGives before r vs (finish.NoMemory back) after = (back ≡ r) × (after ≡ before)
 
--- the answer that a call goes on with, as its sender receives it
+-- the answer that a call resumes with, as its sender receives it
 unfoldable pub resumed_with : EndView → AnsweredWait → Option Answer
 resumed_with seen wait = option_map (λ row. received seen.schema seen.end.actors row wait.given) (request_row seen.schema wait.number)
 
@@ -97,7 +97,7 @@ ResumeGives before None after = (answered_wait_on_top before.end.stack ≡ None)
 ResumeGives before (Some a) after =
     (wait : AnsweredWait) × (answered_wait_on_top before.end.stack ≡ Some wait) × (resumed_with before wait ≡ Some (plain_answer a)) × IsStep before event.resume after
 
--- the frame on top, as it is told
+-- the frame on top, as it is reported
 abbrev pub told_top : StackTop → Top
 told_top stack_top.Empty = top.Empty
 told_top (stack_top.Dispatch head) = top.Dispatch

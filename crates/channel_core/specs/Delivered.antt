@@ -19,17 +19,17 @@ use Rattle.channel_core.specs.EndView.{EndView}
 use Rattle.channel_core.specs.Steps.{IsStepBy}
 
 -- the answer for a refusal: the offsets are those of the message's number, of its own number and of the new id
-abbrev pub told_refusal : Option DeliveryRefusal → DeliverAnswer
-told_refusal None = answer.Done
-told_refusal (Some wrong_direction) = answer.Bad 12 rule.UNSENT_REQUEST.number
-told_refusal (Some wrong_number) = answer.Bad 20 rule.WRONG_NUMBER.number
-told_refusal (Some wrong_new_id) = answer.Bad 28 rule.WRONG_ID.number
-told_refusal (Some (stray seq)) = answer.Stray seq
-told_refusal (Some (wrong_actor id number)) = answer.WrongActor id number
+abbrev pub refusal_answer : Option DeliveryRefusal → DeliverAnswer
+refusal_answer None = answer.Done
+refusal_answer (Some wrong_direction) = answer.Bad 12 rule.UNSENT_REQUEST.number
+refusal_answer (Some wrong_number) = answer.Bad 20 rule.WRONG_NUMBER.number
+refusal_answer (Some wrong_new_id) = answer.Bad 28 rule.WRONG_ID.number
+refusal_answer (Some (stray seq)) = answer.Stray seq
+refusal_answer (Some (wrong_actor id number)) = answer.WrongActor id number
 
 -- the answer to a packet, by what it is
 abbrev pub answer_to : EndView → PacketContent → DeliverAnswer
-answer_to seen (carried packet) = told_refusal (packet_refusal seen.schema seen.end packet)
+answer_to seen (carried packet) = refusal_answer (packet_refusal seen.schema seen.end packet)
 answer_to seen (faulty offset rule) = answer.Bad offset rule
 
 -- the answer of a delivery, unless memory runs out
@@ -51,7 +51,7 @@ DeliverGives before packet other after = (delivery_answer before packet ≡ othe
 abbrev pub CarriedGives : EndView → model.Packet → DeliverAnswer → EndView → Type 0
 CarriedGives before packet answer.NoMemory after = after ≡ before
 CarriedGives before packet answer.Done after = (packet_refusal before.schema before.end packet ≡ None) × IsStepBy before (packet ∷ []) event.deliver after
-CarriedGives before packet other after = (told_refusal (packet_refusal before.schema before.end packet) ≡ other) × (after ≡ before)
+CarriedGives before packet other after = (refusal_answer (packet_refusal before.schema before.end packet) ≡ other) × (after ≡ before)
 
 -- a goodbye, or the mark
 abbrev pub farewell : Option Message → model.Packet

@@ -47,9 +47,9 @@ IsFramed schema model.mark = Unit {0}
 abbrev pub opened : Side → Schema → ℕ → EndView
 opened side schema top = record { end = opening_end top side; schema = schema; lines = []; packets = [] }
 
--- an end behind a step: what the step makes stands last
-abbrev pub behind : EndView → Output → EndView
-behind before output = record {
+-- an end after a step: what the step makes is last
+abbrev pub following : EndView → Output → EndView
+following before output = record {
   end = output.end;
   schema = before.schema;
   lines = before.lines ++ output.lines;

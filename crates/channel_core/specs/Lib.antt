@@ -2,7 +2,6 @@ pub mod EndView
 pub mod Steps
 pub mod Room
 pub mod Inside
-pub mod EndParts
 pub mod Tracks
 pub mod Answers
 pub mod Delivered

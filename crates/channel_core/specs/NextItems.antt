@@ -18,9 +18,9 @@ use Rattle.channel_model.specs.Ends.{Resolver}
 use Rattle.channel_model.specs.Numbers.{makes_promise}
 use Rattle.channel_model.specs.Outputs.{is_open}
 use Rattle.channel_model.specs.Takes.{taken_next}
-use Rattle.end_parts.specs.declared.answer_packet.AnswerPacket.{AnswerPacket}
-use Rattle.end_parts.specs.AnswerPackets.{IsAnswering}
-use Rattle.end_parts.specs.RequestPlans.{IsDrop, IsHandled}
+use Rattle.end_steps.specs.declared.answer_packet.AnswerPacket.{AnswerPacket}
+use Rattle.end_steps.specs.AnswerPackets.{IsAnswering}
+use Rattle.end_steps.specs.RequestPlans.{IsDrop, IsHandled}
 use Rattle.channel_core.specs.declared.end.taking.Farewell.{Farewell}
 use Rattle.channel_core.specs.declared.end.taking.Farewell.TheVariants as farewell
 use Rattle.channel_core.specs.declared.end.taking.ItemKind.{ItemKind}

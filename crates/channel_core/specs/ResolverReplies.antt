@@ -15,7 +15,7 @@ use Rattle.channel_model.specs.Names.{without_name}
 use Rattle.channel_model.specs.Outputs.{AnsweredRequest, reply_to, is_open, line_at}
 use Rattle.end_parts.specs.declared.packet.Packet.{Packet}
 use Rattle.end_parts.specs.OutputView.{OutputView}
-use Rattle.end_parts.specs.Refusals.{answer_refusal_by}
+use Rattle.end_steps.specs.Refusals.{answer_refusal_by}
 use Rattle.end_parts.specs.Replies.{line_of_reply}
 use Rattle.channel_core.specs.declared.answers.NamedAnswer.{NamedAnswer}
 use Rattle.channel_core.specs.declared.answers.NamedAnswer.TheVariants as answer
@@ -31,7 +31,7 @@ reply_by q vs = option_map (λ q. reply_to q (answer_body vs)) q
 abbrev pub reply_refusal : EndView → ℕ → Option AnsweredRequest → Option Values → Option SendRefusal
 reply_refusal seen number q vs = option_and_then (λ row. answer_refusal_by (is_open seen.end.state) seen.schema seen.end.actors row (reply_by q vs)) (message_of seen.schema number)
 
--- a check is of this refusal, or of this reply where there is none
+-- a check is of this refusal, or of this reply if it is not refused
 abbrev pub IsCheckOf : Option SendRefusal → Option Message → ReplyCheck → Type 0
 IsCheckOf refusal reply (Refused cause) = refusal ≡ Some cause
 IsCheckOf refusal reply (Accepted m) = (refusal ≡ None) × (option_map plain_message reply ≡ Some (plain_message m))
@@ -42,13 +42,13 @@ pub record HasReserved (before after : OutputView) : Type 0 where
   pub lines : before.line_spare ≤ after.line_spare
   pub packets : before.packet_spare ≤ after.packet_spare
 
--- A line is said, for which room was made.
+-- A line is printed, for which room was made.
 pub record HasSaid (line : Line) (before after : OutputView) : Type 0 where
   pub said : after ≡ record before { lines = before.lines ++ line ∷ []; line_spare = after.line_spare; packet_spare = after.packet_spare }
   pub lines : before.lines_owed ≤ after.line_spare
   pub packets : before.packet_spare ≤ after.packet_spare
 
--- A line is said and a packet is put behind the outbox; room was made for both, and for another packet.
+-- A line is printed and a packet is put after the outbox; room was made for both, and for another packet.
 pub record HasReplied (line : Line) (packet : Packet) (before after : OutputView) : Type 0 where
   pub said : after ≡ record before {
     lines = before.lines ++ line ∷ [];
@@ -78,14 +78,14 @@ abbrev pub FitsCheck : Schema → ReplyCheck → Type 0
 FitsCheck schema (Refused cause) = Unit {0}
 FitsCheck schema (Accepted m) = Fits schema m
 
--- what a check has found is said, and the reply that it accepts is sent
+-- what a check has found is printed, and the reply that it accepts is sent
 abbrev pub IsPushed : Schema → Side → Option Values → ReplyCheck → OutputView → NamedAnswer → OutputView → Type 0
 IsPushed schema side vs (Refused cause) before given after = IsRefusedWith side cause vs before given after
 IsPushed schema side vs (Accepted m) before answer.Sent after = HasReplied (line_at side (line_of_reply (plain_message m))) (frame_packet schema (plain_message m)) before after
 IsPushed schema side vs (Accepted m) before (answer.Refused cause) after = ⊥
 IsPushed schema side vs (Accepted m) before answer.NoMemory after = HasReserved before after
 
--- the stack behind an answer, whose resolver is used where it was sent
+-- the stack after an answer, whose resolver is used where it was sent
 abbrev pub stack_answered : NamedAnswer → ℤ → List StackEntry → List StackEntry
 stack_answered answer.Sent seq stack = released seq stack
 stack_answered (answer.Refused cause) seq stack = stack

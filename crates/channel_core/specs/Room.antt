@@ -14,7 +14,7 @@ own_lines Draining = 1
 own_lines Closed = 1
 own_lines Dead = 0
 
--- a wait fails and its call goes on, or the call only goes on
+-- a wait fails and its call resumes, or the call only resumes
 abbrev pub wait_lines : StackFrame → ℕ
 wait_lines (Dispatch head) = 0
 wait_lines (Wait head None) = 2

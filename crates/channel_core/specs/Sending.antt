@@ -5,10 +5,8 @@ use Rattle.ipdl_base.specs.declared.schema.MessageRow.{MessageRow}
 use Rattle.ipdl_base.specs.declared.schema.Schema.{Schema}
 use Rattle.ipdl_base.specs.declared.value.Values.{Values}
 use Rattle.channel_model.specs.Numbers.{request_row}
-use Rattle.channel_model.specs.Sends.{may_send, send_refusal, request_of, send_line}
+use Rattle.channel_model.specs.Sends.{may_send, send_refusal, request_of}
 use Rattle.end_parts.specs.declared.packet.Packet.TheVariants.{Bytes}
-use Rattle.end_parts.specs.PlainLines.{plain_what}
-use Rattle.channel_core.specs.declared.ready_request.ReadyRequest.{ReadyRequest}
 use Rattle.channel_core.specs.EndView.{EndView, frame_packet, HasFrame}
 
 -- A request of a message may be sent with these values and this name, nothing refuses it, and it is this.
@@ -19,8 +17,7 @@ pub record IsAccepted (seen : EndView) (row : MessageRow) (m : Message) (vs : Va
   pub is : m ≡ request_of seen.end row m.route vs
   pub few : seen.end.sent < 268435456
 
--- A request is ready: this is its line, and this is its frame.
-pub record IsReady (schema : Schema) (row : MessageRow) (m : Message) (vs : Values) (ready : ReadyRequest) : Type 0 where
-  pub line : plain_what ready.what ≡ send_line row m vs
-  pub frame : Bytes ready.frame ≡ frame_packet schema m
+-- A request is ready: this is its frame.
+pub record IsReady (schema : Schema) (m : Message) (bytes : List ℕ) : Type 0 where
+  pub frame : Bytes bytes ≡ frame_packet schema m
   pub framed : HasFrame schema m

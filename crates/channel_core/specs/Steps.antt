@@ -12,14 +12,14 @@ use Rattle.channel_model.specs.Outputs.{Output}
 use Rattle.channel_model.specs.Returns.{dispatch_on_top, may_return}
 use Rattle.channel_model.specs.Sends.{may_send}
 use Rattle.channel_model.specs.Steps.{step}
-use Rattle.channel_core.specs.EndView.{EndView, IsFramed, behind}
+use Rattle.channel_core.specs.EndView.{EndView, IsFramed, following}
 
--- An end is that behind the step of an event, where the link toward it carries these packets; and each packet that the
+-- An end is that after the step of an event, where the link toward it carries these packets; and each packet that the
 -- step puts onto the other link has a frame.
 pub record IsStepBy (before : EndView) (link : List model.Packet) (event : Event) (after : EndView) : Type 0 where
   pub output : Output
   pub is_step : step before.schema before.end link event ≡ Some output
-  pub is_behind : after ≡ behind before output
+  pub is_after : after ≡ following before output
   pub framed : AllByRecursion (IsFramed before.schema) output.packets
 
 -- the same of an event that takes nothing from the link

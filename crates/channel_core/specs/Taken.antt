@@ -61,7 +61,7 @@ pub record IsHandling (m : Message) (row : MessageRow) (vs : Values) (h : Handli
   pub values : plain_values h.values ≡ vs
   pub resolver : h.resolver ≡ resolver_for m row
 
--- an answer says what was done
+-- the result is what was done
 abbrev pub IsKindOf : TakeKind → TakeAnswer → Type 0
 IsKindOf (handle m row vs) (answer.Handle h) = IsHandling m row vs h
 IsKindOf drop answer.Dropped = Unit {0}

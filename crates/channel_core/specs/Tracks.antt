@@ -5,7 +5,7 @@ use Rattle.channel_model.specs.Outputs.{Output}
 use Rattle.end_parts.specs.OutputView.{OutputView}
 use Rattle.channel_core.specs.EndView.{EndView, packets_of, frame_packet, HasFrame, IsFramed}
 
--- The lines and the packets of the output stand behind those from before, and its outbox is there with its frames.
+-- The lines and the packets of the output are after those from before, and its outbox is there with its frames.
 pub record Tracks (before : EndView) (output : Output) (out : OutputView) : Type 0 where
   pub lines : out.lines ≡ before.lines ++ output.lines
   pub packets : out.packets ≡ before.packets ++ packets_of before.schema output.packets

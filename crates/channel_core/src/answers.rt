@@ -1,53 +1,54 @@
+//! What the calls of an end return.
 use crate::resolver::Resolver;
 use ipdl_base::{SendRefusal, Values};
 
-/// What a send answers.
+/// The result of a send.
 #[derive(Drop)]
 pub enum SendAnswer {
-    /// It was sent, with this number; `made` is the id of the actor that it makes, else 0.
+    /// The request was sent, with this number; `made` is the id of the actor that it makes, or 0.
     Sent { seq: i32, made: i32 },
-    /// It was not sent, for the first cause that holds.
+    /// The request was not sent, for the first cause that holds.
     Refused(SendRefusal),
     /// Nothing changed.
     NoMemory,
 }
 
-/// What the answer to a handled request answers.
+/// The result of an answer to a handled request.
 #[derive(Drop)]
 pub enum ResolveAnswer {
     Sent,
-    /// It was not sent, for the first cause that holds; the resolver is handed back.
+    /// The answer was not sent, for the first cause that holds. Returns the resolver.
     Refused(SendRefusal, Resolver),
-    /// Nothing changed; the resolver is handed back.
+    /// Nothing changed. Returns the resolver.
     NoMemory(Resolver),
 }
 
-/// What the keeping of a resolver answers.
+/// The result of keeping a resolver.
 #[derive(Drop)]
 pub enum KeepAnswer {
     Kept,
-    /// Nothing changed; the resolver is handed back.
+    /// Nothing changed. Returns the resolver.
     NoMemory(Resolver),
 }
 
-/// What an answer by a name answers.
+/// The result of an answer by a name.
 #[derive(Drop)]
 pub enum NamedAnswer {
     Sent,
-    /// It was not sent, for the first cause that holds.
+    /// The answer was not sent, for the first cause that holds.
     Refused(SendRefusal),
     /// Nothing changed.
     NoMemory,
 }
 
-/// What a delivery answers. Only `Done` changes the end.
+/// The result of a delivery. Only `Done` changes the end.
 #[derive(Drop)]
 pub enum DeliverAnswer {
     Done,
     NoMemory,
     /// The bytes break the rule of this number (docs/frames.md) at this offset.
     Bad(usize, u8),
-    /// It is a reply of this number that nothing waits for.
+    /// The packet is a reply of this number that nothing waits for.
     Stray(i32),
     /// The actor of this id lives with another protocol; the number is the message's.
     WrongActor(i32, u32),
@@ -56,21 +57,21 @@ pub enum DeliverAnswer {
 /// A request that is handled.
 #[derive(Drop)]
 pub struct Handling {
-    /// The id of the actor that it went to.
+    /// The id of the actor that the request went to.
     pub route: i32,
-    /// The number of its message.
+    /// The number of the request's message.
     pub number: u32,
-    /// Its own number.
+    /// The number of the request.
     pub seq: i32,
-    /// The id of the actor that it made, else 0.
+    /// The id of the actor that the request made, or 0.
     pub made: i32,
-    /// Its values, with null for the dead actors of nullable types.
+    /// The values of the request, with null for the dead actors of nullable types.
     pub values: Values,
-    /// The right to answer it, where its message is async with returns.
+    /// The right to answer the request, if its message is async with returns.
     pub resolver: Option<Resolver>,
 }
 
-/// What a take answers, which is what it took.
+/// The result of a take, which is what was taken.
 #[derive(Drop)]
 pub enum TakeAnswer {
     /// A request, which is handled now.
@@ -79,7 +80,7 @@ pub enum TakeAnswer {
     Dropped,
     /// The reply to a promise, late or not.
     Settled,
-    /// A goodbye or a mark: the end is closed now.
+    /// A goodbye or a mark; the end is closed now.
     Shut,
     /// Nothing can be taken, and nothing changed.
     Nothing,
@@ -87,21 +88,22 @@ pub enum TakeAnswer {
     NoMemory,
 }
 
-/// What a return answers.
+/// The result of a return.
 #[derive(Drop)]
 pub enum FinishAnswer {
     Done,
-    /// Nothing changed; the resolver is handed back.
+    /// Nothing changed. Returns the resolver.
     NoMemory(Option<Resolver>),
 }
 
-/// What a close answers.
+/// The result of a close.
 #[derive(Drop)]
 pub enum CloseAnswer {
     Done,
-    /// It did not close, for the first cause that holds.
+    /// The end did not close, for the first cause that holds.
     Refused(SendRefusal),
-    /// It would be refused, and there is no room for the line that says so. Nothing changed.
+    /// The close would be refused, and there is no room for the line of the refusal. Nothing
+    /// changed.
     NoMemory,
 }
 
@@ -113,7 +115,7 @@ pub enum Top {
     Dispatch,
     /// A call waits for its reply.
     Unanswered,
-    /// A call has its reply, and may go on.
+    /// A call has its reply, and may resume.
     Answered,
 }
 
@@ -126,6 +128,6 @@ pub struct RunningHandler {
     pub route: i32,
     /// The number of the request's message.
     pub number: u32,
-    /// Whether its resolver is there, neither used nor kept.
+    /// Whether its resolver is still there, neither used nor kept.
     pub has_resolver: bool,
 }

@@ -1,3 +1,4 @@
+//! One end of a channel, its model, and the calls that only look at it.
 ghost use Rattle.std.specs.Prelude.{◌≡◌, ◌<◌, length, option_map, IfOk};
 ghost use Rattle.actor_tree.specs.Tree.{actor_of};
 ghost use Rattle.ipdl_base.specs.Sound.{IsSound};
@@ -9,11 +10,9 @@ mod answering;
 mod closing;
 mod delivering;
 mod looks;
-mod parts;
 mod sending;
 mod taking;
 
-pub use self::parts::EndParts;
 use crate::answers::Top;
 use actor_tree::Tree;
 use end_parts::{EndOutput, NameEntries, PromiseEntries, StackEntries, goodbye_frame};
@@ -23,8 +22,8 @@ use pending_queue::Pending;
 use std::alloc::{AllocError, Global};
 use std::marker::Model;
 
-/// One end of a channel (docs/channel.md). Contracts see what it keeps, its schema, its lines that
-/// were not drained and its packets that were not handed out.
+/// One end of a channel (docs/channel.md). Contracts see what it keeps, its schema, the lines that
+/// were not drained and the packets that were not handed out.
 #[derive(Drop)]
 pub struct End<'s> {
     alloc: Global,
@@ -38,10 +37,10 @@ pub struct End<'s> {
     promises: PromiseEntries,
     names: NameEntries,
     out: EndOutput,
-    /// How many requests it has sent, and how many of them were constructors.
+    /// The number of requests that the end has sent, and of constructors among them.
     sent: u32,
     constructors_sent: u32,
-    /// How many requests were delivered to it, and how many of them were constructors.
+    /// The number of requests that were delivered to the end, and of constructors among them.
     delivered: u32,
     constructors_delivered: u32,
 }
@@ -99,8 +98,8 @@ impl<'s> End<'s> {
     ghost use Rattle.channel_core.specs.Answers.{told_top};
     ghost use Rattle.channel_core.specs.EndView.{opened};
 
-    /// The end of a side as it begins: open, with the top actor of a protocol, which lives at both
-    /// ends. The only error is want of memory.
+    /// Returns the open end of a side, with the top actor of a protocol. The top actor lives at
+    /// both ends. Fails only if memory runs out.
     pub fn open(
         alloc: Global,
         side: Side,
@@ -131,14 +130,14 @@ impl<'s> End<'s> {
         })
     }
 
-    /// How far the end has come. It takes no memory.
+    /// Returns the state of the end. Takes no memory.
     pub fn state(&self) -> EndState
         ensures { result ≡ self.now.end.state }
     {
         self.state
     }
 
-    /// The frame on top of the stack. It takes no memory.
+    /// Returns the frame on top of the stack. Takes no memory.
     pub fn top(&self) -> Top
         ensures { result ≡ told_top (top_of (frames_of self.now.end)) }
     {
@@ -150,7 +149,7 @@ impl<'s> End<'s> {
         }
     }
 
-    /// The protocol of the living actor of an id; `None` where none lives. It takes no memory.
+    /// Returns the protocol of the living actor of an id, or `None` if none lives. Takes no memory.
     pub fn lives(&self, id: i32) -> Option<u32>
         ensures { result ≡ option_map (λ a. a.protocol) (actor_of id self.now.end.actors) }
     {
@@ -159,7 +158,7 @@ impl<'s> End<'s> {
     }
 }
 
-// Whether a state is that of an open end.
+// Whether an end of this state is open.
 fn is_open(state: EndState) -> bool
     ensures { result ≡ is_open state }
 {

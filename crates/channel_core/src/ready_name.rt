@@ -1,26 +1,24 @@
-//! The name that a new actor gets, made before anything changes.
+//! The name of a new actor, made before anything changes.
 ghost use Rattle.std.specs.Prelude.{◌≡◌, ◌+◌, ◌<◌, ◌≤◌, length, option_map, IfOk};
 ghost use Rattle.std.specs.List.{AllByRecursion};
 ghost use Rattle.channel_model.specs.Fitting.{FitsNaming};
 ghost use Rattle.ipdl_base.specs.Sound.{IsSound};
-ghost use Rattle.channel_core.specs.NewNames.{IsReadyName, HasRoomFor, names_behind, output_behind};
+ghost use Rattle.channel_core.specs.NewNames.{IsReadyName, HasRoomFor, names_after, output_after};
 
-use end_parts::{
-    DestroyedReply, EndOutput, NameContent, NameEntries, destroyed_by_name, push_destroyed,
-};
+use end_parts::{EndOutput, NameContent, NameEntries};
+use end_steps::{DestroyedReply, destroyed_by_name, push_destroyed};
 use ipdl_base::{Name, Schema, Side};
 use std::alloc::{AllocError, Global};
 
-/// A name that is to hold a new actor.
+/// A name for a new actor.
 #[derive(Drop)]
 pub(crate) struct ReadyName {
     held: Name,
-    /// The answer for the resolver that the name held.
+    /// The answer for the resolver that the name had.
     destroyed: Option<DestroyedReply>,
 }
 
-/// Makes the name of a new actor ready, if it gets one, at an open end. The only error is want of
-/// memory.
+/// Makes the name of a new actor, if it gets one, at an open end. Fails only if memory runs out.
 pub(crate) fn make_name(
     alloc: Global,
     schema: &Schema,
@@ -43,7 +41,7 @@ pub(crate) fn make_name(
     }
 }
 
-/// Gives a name that is ready, if there is one, to the actor of an id.
+/// Binds a name that was made, if there is one, to the actor of an id.
 pub(crate) fn give_name(
     side: Side,
     ready: Option<ReadyName>,
@@ -54,8 +52,8 @@ pub(crate) fn give_name(
     requires room { HasRoomFor ready names.old }
     requires lines { 0 < out.old.line_spare }
     requires packets { length out.old.frames + 1 ≤ out.old.packet_spare }
-    ensures names { names.new.names ≡ names_behind ready id names.old.names }
-    ensures out { out.new ≡ output_behind side ready out.old }
+    ensures names { names.new.names ≡ names_after ready id names.old.names }
+    ensures out { out.new ≡ output_after side ready out.old }
 {
     match ready {
         None => {}

@@ -1,15 +1,16 @@
+//! The right to answer an async request, as the owner of an end has it.
 ghost use Rattle.std.specs.Prelude.{◌≡◌};
 ghost use Rattle.channel_model.specs.Outputs.{resolver_answered};
 ghost use Rattle.end_parts.specs.Replies.{answered_of};
 
-use end_parts::{AnsweredRequest, RequestKey, Resolver as HeldResolver};
+use end_parts::{AnsweredRequest, KeptResolver, RequestKey};
 use std::marker::Model;
 
-/// The right to answer an async request, which only `End::take` gives. Contracts see the number of
-/// the request, the actor that it went to and the number of its message.
+/// The right to answer an async request. Only `End::take` gives it. Contracts see the number of the
+/// request, the id of its actor and the number of its message.
 #[derive(Drop)]
 pub struct Resolver {
-    held: HeldResolver,
+    kept: KeptResolver,
 }
 
 impl Model for Resolver {
@@ -17,59 +18,59 @@ impl Model for Resolver {
 
     ghost Value = { model.Resolver };
 
-    ghost view = { λ r. r.held };
+    ghost view = { λ r. r.kept };
 }
 
 impl Resolver {
-    /// The number of the request.
+    /// Returns the number of the request.
     pub fn seq(&self) -> i32
         ensures { result ≡ self.now.seq }
     {
-        self.held.seq()
+        self.kept.seq()
     }
 
-    /// The id of the actor that the request went to.
+    /// Returns the id of the actor that the request went to.
     pub fn route(&self) -> i32
         ensures { result ≡ self.now.route }
     {
-        self.held.route()
+        self.kept.route()
     }
 
-    /// The number of the request's message.
+    /// Returns the number of the request's message.
     pub fn number(&self) -> u32
         ensures { result ≡ self.now.number }
     {
-        self.held.number()
+        self.kept.number()
     }
 
-    /// The resolver of a request.
+    /// Returns the resolver of a request.
     pub(crate) fn of_request(seq: i32, route: i32, number: u32) -> Resolver
         ensures { result ≡ record { seq = seq; route = route; number = number } }
     {
         Resolver {
-            held: HeldResolver::new(seq, route, number),
+            kept: KeptResolver::new(seq, route, number),
         }
     }
 
-    /// What a reply to the request shows of it.
+    /// Returns what a reply to the request shows of it.
     pub(crate) fn key(&self) -> RequestKey
         ensures { result ≡ record { seq = self.now.seq; route = self.now.route; number = self.now.number } }
     {
-        self.held.key()
+        self.kept.key()
     }
 
-    /// What the answer by it repeats.
+    /// Returns what the answer by this resolver repeats.
     pub(crate) fn answered(&self) -> AnsweredRequest
         ensures { answered_of result ≡ resolver_answered self.now }
     {
-        self.held.answered()
+        self.kept.answered()
     }
 
-    /// The resolver as a name holds it.
-    pub(crate) fn into_held(self) -> HeldResolver
+    /// Returns the resolver as a name keeps it.
+    pub(crate) fn into_kept(self) -> KeptResolver
         ensures { result ≡ self }
     {
-        let Resolver { held } = self;
-        held
+        let Resolver { kept } = self;
+        kept
     }
 }

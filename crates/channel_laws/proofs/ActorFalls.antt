@@ -1,4 +1,4 @@
--- The lines by which actors fall are as the law of falls demands, whatever the end may have been sent.
+-- The lines by which actors fall obey the law of falls, whatever the end has received.
 use Rattle.std.proofs.Common.{◌≡◌, ◌≢◌, inl, inr, ℕ, ◌+◌, ◌≤◌, nat_lt, ℤ, pos, Bool, true, false, not, ◌&&◌, ◌||◌, cond, if◌then◌else◌, int_eq, List, [], ◌∷◌, ◌++◌, find, length, map, reverse, unwrap_or, Option, Some, None, option_map, refl, sym, ap, subst, ◌∙◌, append_assoc, arith}
 use Rattle.std.specs.List.{AllByRecursion, list_any, flat_map, position_or_len}
 use Rattle.std.proofs.lemmas.Bool.{cases_Bool, le-ltb, ltb-false}
@@ -59,7 +59,7 @@ manager-is built id = refl
 abbrev built_ids_in : List BuiltActor → List ℤ
 built_ids_in built = map (λ (a : BuiltActor). a.id) built
 
--- what stands before another has no later place
+-- an element that is before another has no later place
 places-in-order : (built : List BuiltActor) (b a : ℤ) → precedes (built_ids_in built) b a ≡ true → place_in built b ≤ place_in built a
 places-in-order [] b a e = cc
 places-in-order (x ∷ xs) b a e = by (int_eq x.id b) (int_eq x.id a) (places-in-order xs b a) e
@@ -69,7 +69,7 @@ places-in-order (x ∷ xs) b a e = by (int_eq x.id b) (int_eq x.id a) (places-in
     by false true rec e = cc
     by false false rec e = let k : place_in xs b ≤ place_in xs a = rec e in omega arith
 
--- of those who stand, one before another was built before it
+-- among the actors that have not fallen, if one is before another, it was built before it
 standing-precedes : (f : List ℤ) (built : List BuiltActor) (b a : ℤ) → has_number f b ≡ false → has_number f a ≡ false → precedes (built_ids_in (standing f built)) b a ≡ true → precedes (built_ids_in built) b a ≡ true
 standing-precedes f [] b a nb na e = e
 standing-precedes f (x ∷ xs) b a nb na e = by (has_number f x.id) refl (standing-precedes f xs b a nb na) e
@@ -118,9 +118,9 @@ manager-read built fallen actors a k tree i =
     (sym (find-standing fallen built a.id (alive-unfallen built fallen actors a.id k (lives-true a.id actors (has-in actors a i))))
     ∙ (ap (find (λ (b : BuiltActor). int_eq b.id a.id)) k ∙ find-shown actors a i (λ y j s. same-actor actors y a tree j i s)))
 
--- Tests of one who falls
+-- Tests of an actor that falls
 
--- all that the law says of one who falls
+-- all that the law requires of an actor that falls
 pub record MayFall (built : List BuiltActor) (fallen : List ℤ) (falls : List ActorPlace) (why : Cause) (id : ℤ) (reason : Destroy) : Type 0 where
   pub alive : was_built built id && not (has_number fallen id) ≡ true
   pub alone : manages_living_of fallen built id ≡ false
@@ -179,7 +179,7 @@ once-before (x ∷ front) a back o = lives-false a.id (x ∷ front) (λ k. elim 
     has-there [] e = inl (sym e)
     has-there (y ∷ xs) e = inr (has-there xs e)
 
--- In the fall of a subtree each is, behind those who fell before it, as the law demands.
+-- In the fall of a subtree each actor falls, after those before it, as the law requires.
 module _ (built : List BuiltActor) (fallen : List ℤ) (actors : List Actor) (shows : standing fallen built ≡ map shown_actor actors) (tree : IsTree actors) (zero : lives (pos 0) actors ≡ false) (root : ℤ) where
   falls-alive : (front : List Actor) (a : Actor) (back : List Actor) → post_order root actors ≡ front ++ a ∷ back → In a actors
   falls-alive front a back order = in-order root actors a (subst (In a) (sym order) (in-right front (a ∷ back) a here))
@@ -239,7 +239,7 @@ climbs-dead f (x ∷ xs) id top e = by (has_number f x.id) refl (climbs-dead f x
       | inr n ↦ rec (sym (ap (λ (t : Bool). if t then (int_eq x.manager top || climbs (standing f xs) x.manager top) else climbs (standing f xs) id top) (other x.id id n)) ∙ e)
     ]
 
--- who is below another among those who stand is so among all
+-- an actor that is below another among those that have not fallen is below it among all
 standing-climbs : (f : List ℤ) (built : List BuiltActor) (id top : ℤ) → climbs (standing f built) id top ≡ true → climbs built id top ≡ true
 standing-climbs f [] id top e = e
 standing-climbs f (x ∷ xs) id top e = by (has_number f x.id) refl (standing-climbs f xs) e
@@ -283,7 +283,7 @@ closing-allowed built destroy.AbnormalShutdown id = refl
 
 -- The lines of a subtree that falls
 
--- what is read behind the fall of some actors
+-- what is read after the fall of some actors
 abbrev pub fallen_reading : ActorReading → List Actor → ActorReading
 fallen_reading read front = record read { fallen = read.fallen ++ ids_in front; falls = read.falls ++ places_of read.built front }
 
@@ -296,12 +296,12 @@ more-fallen read xs ys =
     ∙ ap (λ (f : List ActorPlace). record read { fallen = read.fallen ++ ids_in (xs ++ ys); falls = f }) (append_assoc read.falls (places_of read.built xs) (places_of read.built ys) ∙ ap (λ (l : List ActorPlace). read.falls ++ l) (sym (map-append (λ (a : Actor). actor_place read.built a.id) xs ys)))
 
 module _ (schema : Schema) (why : ℤ → Destroy) (promises : List PromiseEntry) where
-  -- the line of one that falls, behind those by which its promises are rejected
+  -- the line of an actor that falls, after the lines that reject its promises
   one-read : (place : ℕ) (ws : List What) (a : Actor) (own : EndReading) → AllByRecursion SaysNoActor ws → actor_reading (after_whats schema place (ws ++ what.Fall a.id (why a.id) ∷ []) own) ≡ fallen_reading (actor_reading own) (a ∷ [])
   one-read place [] a own l = refl
   one-read place (w ∷ ws) a own l = one-read (place + 1) ws a (after_what schema place w own) l.1 ∙ ap (λ (r : ActorReading). fallen_reading r (a ∷ [])) (no_actor-read schema place (w ∷ []) own (l.0, tt))
 
-  -- what is read behind the lines of all that fall
+  -- what is read after the lines of all that fall
   pub falls-read : (place : ℕ) (fs : List Actor) (own : EndReading) → actor_reading (after_whats schema place (flat_map (fall.fall_lines why promises) fs) own) ≡ fallen_reading (actor_reading own) fs
   falls-read place [] own = sym (none-fallen (actor_reading own))
   falls-read place (a ∷ fs) own =
@@ -311,7 +311,7 @@ module _ (schema : Schema) (why : ℤ → Destroy) (promises : List PromiseEntry
       ∙ (ap (λ (r : ActorReading). fallen_reading r fs) (one-read place (fall.rejections (is_pending_of a.id) reason.ActorDestroyed promises) a own (no_actor-rejections (is_pending_of a.id) reason.ActorDestroyed promises))
       ∙ more-fallen (actor_reading own) (a ∷ []) fs))
 
-  -- Where each may fall behind those before it, all their lines pass the law.
+  -- If each may fall after those before it, all their lines pass the law.
   pub falls-pass : (start : ActorReading) (whole : List Actor) → start.falls ≡ []
       → ((front : List Actor) (a : Actor) (back : List Actor) → whole ≡ front ++ a ∷ back → MayFall start.built (start.fallen ++ ids_in front) (places_of start.built front) start.cause a.id (why a.id))
       → (place : ℕ) (front fs : List Actor) (own : EndReading) → whole ≡ front ++ fs → actor_reading own ≡ fallen_reading start front → EndLinesPass schema (λ h w. fallen_line h w ≡ true) place (flat_map (fall.fall_lines why promises) fs) own

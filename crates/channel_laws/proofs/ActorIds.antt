@@ -23,30 +23,31 @@ use Rattle.nesting_core.specs.declared.frame.Answer.TheVariants as answer
 use Rattle.pending_queue.specs.declared.item.Item.{Item}
 use Rattle.pending_queue.specs.declared.item.Item.TheVariants as item
 use Rattle.pending_queue.specs.Compression.{is_request, staying}
-use Rattle.pending_queue.specs.Holding.{is_free, without_first}
+use Rattle.pending_queue.specs.DeferralContext.{is_free, without_first}
 use Rattle.history_reading.specs.declared.parts.BuiltActor.{BuiltActor}
 use Rattle.channel_model.specs.Actors.{Ids, IsTaken, AreKnown, IsNew, IsTopOf, AreDistinct, new_ids, new_ids_in}
 use Rattle.channel_model.specs.Deliveries as delivery
 use Rattle.channel_model.specs.Ends.{End, Packet, message, mark}
 use Rattle.channel_model.specs.Events.{handled, kept}
-use Rattle.channel_model.specs.Numbers.{other, id_of, counting, is_constructor, is_sync_row}
+use Rattle.ipdl_base.specs.Sides.{other}
+use Rattle.channel_model.specs.Numbers.{id_of, counting, is_constructor, is_sync_row}
 use Rattle.channel_model.specs.Outputs.{body_of}
 use Rattle.channel_model.specs.Parts as part
-use Rattle.channel_model.specs.Parts.{FirstPart, DeliveryPart, end_behind, farewell_item}
+use Rattle.channel_model.specs.Parts.{FirstPart, DeliveryPart, end_after, farewell_item}
 use Rattle.channel_model.specs.Phases.{Phase, fresh_of}
 use Rattle.channel_model.specs.Refusals.{expected_id}
 use Rattle.channel_model.specs.Sends as send
 use Rattle.channel_model.specs.States.{is_farewell, is_goodbye}
 use Rattle.channel_model.specs.Takes as take
 use Rattle.channel_model.proofs.FittingEnds.{taken-first}
-use Rattle.channel_model.proofs.Known.{own_is_free, ids_apart, all-map, all-append, all-both, all-before, all-behind, distinct-from, distinct-without, dead-append, living-append, known-counted, known-fewer, known-arrives}
+use Rattle.channel_model.proofs.Known.{own_is_free, ids_apart, all-map, all-append, all-both, all-before, all-following, distinct-from, distinct-without, dead-append, living-append, known-counted, known-fewer, known-arrives}
 use Rattle.channel_model.proofs.KnownSteps.{new_ids-last, not_request, new_ids-request}
 use Rattle.channel_model.proofs.Sublists.{Sublist, sublist-none, sublist-flat_map, without_first-sublist, staying-sublist, TakenOut, taken_out}
 use Rattle.channel_laws.specs.EndActors.{built_ids, IsPending, HasIds, HasNextId}
 
 -- An actor is built
 
--- one with an id that is taken, of nobody yet and of none that waits
+-- an actor with an id that is taken, that no actor has yet and no waiting constructor
 pub known-built : (protocol : ℕ) (ids : Ids) (a : Actor) → AreKnown protocol ids → IsTopOf protocol a → IsTaken ids a.id → lives a.id ids.actors ≡ false → AllByRecursion (λ waiting. waiting ≢ a.id) ids.waiting → lives a.manager ids.actors ≡ true
     → AreKnown protocol (record ids { actors = ids.actors ++ a ∷ [] })
 known-built protocol ids a h top taken free apart manager = record {
@@ -86,12 +87,12 @@ fewer-ids schema fresh e built some s k = known-fewer 0 (built_ids schema e buil
 
 left-ids : (schema : Schema) (fresh : List ℤ) (e : End) (built : List BuiltActor) → HasIds schema fresh e built → HasIds schema [] (part.left_end e) built
 left-ids schema fresh e built k =
-    let test : Item → Bool = is_free (take.holding_of e) in
+    let test : Item → Bool = is_free (take.deferral_context_of e) in
     record { tree = k.tree; known = fewer-ids schema fresh e built (without_first test e.arrived) (without_first-sublist test e.arrived) k; pending = tt }
 
-behind-ids : (schema : Schema) (b : Bool) (e : End) (built : List BuiltActor) → HasIds schema [] e built → HasIds schema [] (end_behind b e) built
-behind-ids schema true e built k = record { tree = k.tree; known = k.known; pending = tt }
-behind-ids schema false e built k = k
+following-ids : (schema : Schema) (b : Bool) (e : End) (built : List BuiltActor) → HasIds schema [] e built → HasIds schema [] (end_after b e) built
+following-ids schema true e built k = record { tree = k.tree; known = k.known; pending = tt }
+following-ids schema false e built k = k
 
 -- a constructor that is taken has an id that may be built
 constructor-taken : (schema : Schema) (ids : Ids) (made : ℤ) (before after : List ℤ) → AreKnown 0 ids → ids.waiting ≡ before ++ made ∷ after
@@ -99,12 +100,12 @@ constructor-taken : (schema : Schema) (ids : Ids) (made : ℤ) (before after : L
 constructor-taken schema ids made before after h is =
     let waiting : AllByRecursion (IsNew ids) (before ++ made ∷ after) = subst (AllByRecursion (IsNew ids)) is h.waiting in
     let distinct : AreDistinct (before ++ made ∷ after) = subst AreDistinct is h.distinct in
-    let own : IsNew ids made = (all-behind (IsNew ids) before (made ∷ after) waiting).0 in (
+    let own : IsNew ids made = (all-following (IsNew ids) before (made ∷ after) waiting).0 in (
       record {
         tree = h.tree;
         top = h.top;
         taken = h.taken;
-        waiting = all-append (IsNew ids) before after (all-before (IsNew ids) before (made ∷ after) waiting) (all-behind (IsNew ids) before (made ∷ after) waiting).1;
+        waiting = all-append (IsNew ids) before after (all-before (IsNew ids) before (made ∷ after) waiting) (all-following (IsNew ids) before (made ∷ after) waiting).1;
         distinct = distinct-without before made after distinct;
       },
       (inr (inr own.0), own.1, distinct-from before made after distinct, refl),
@@ -122,10 +123,10 @@ takes-ids : (schema : Schema) (fresh : List ℤ) (e : End) (built : List BuiltAc
     → take.taken_next e ≡ Some (item.Message m sync level) → m.body ≡ Request vs → message_of schema m.number ≡ Some row → HasIds schema fresh e built
     → AreKnown 0 (built_ids schema (part.left_end e) built) × IsPending (built_ids schema (part.left_end e) built) (fresh_of row m)
 takes-ids schema fresh e built m sync level row vs next body found k =
-    let test : Item → Bool = is_free (take.holding_of e) in
+    let test : Item → Bool = is_free (take.deferral_context_of e) in
     let out : TakenOut (new_ids_in schema) test e.arrived (item.Message m sync level) = taken_out (new_ids_in schema) test e.arrived (item.Message m sync level) (taken-first e (item.Message m sync level) next) in
     let own = new_ids-request schema m row vs sync level body found in
-    taken-ids schema (is_constructor row.kind) (built_ids schema e built) m.made (new_ids schema (without_first test e.arrived)) (new_ids_in schema (item.Message m sync level)) out.before out.behind k.known own out.whole out.rest
+    taken-ids schema (is_constructor row.kind) (built_ids schema e built) m.made (new_ids schema (without_first test e.arrived)) (new_ids_in schema (item.Message m sync level)) out.before out.following k.known own out.whole out.rest
 
 -- an item without an id arrives
 arrives-ids : (schema : Schema) (fresh : List ℤ) (e : End) (built : List BuiltActor) (new : Item) → new_ids_in schema new ≡ [] → HasIds schema fresh e built → AreKnown 0 (record (built_ids schema e built) { waiting = new_ids schema (e.arrived ++ new ∷ []) })
@@ -187,19 +188,19 @@ first-ids schema fresh built {e} (part.dies_silent o alive) k = record { tree = 
 first-ids schema fresh built {e} (part.takes m sync level row vs next body found stays) k =
     let ids = takes-ids schema fresh e built m sync level row vs next body found k in
     record { tree = k.tree; known = ids.0; pending = ids.1 }
-first-ids schema fresh built {e} (part.drops m sync level row vs id replies next body found gone is) k = behind-ids schema replies (part.left_end e) built (left-ids schema fresh e built k)
+first-ids schema fresh built {e} (part.drops m sync level row vs id replies next body found gone is) k = following-ids schema replies (part.left_end e) built (left-ids schema fresh e built k)
 first-ids schema fresh built {e} (part.drops_unknown m sync level vs next body none) k = left-ids schema fresh e built k
 first-ids schema fresh built {e} (part.takes_reply m sync level a next body late) k = left-ids schema fresh e built k
 first-ids schema fresh built {e} (part.settles m sync level row a next body found awaited) k = let l = left-ids schema fresh e built k in record { tree = l.tree; known = l.known; pending = tt }
 first-ids schema fresh built {e} (part.shuts last next is) k = record { tree = k.tree; known = fewer-ids schema fresh e built [] (sublist-none e.arrived) k; pending = tt }
 first-ids schema fresh built {e} (part.returns entry row vs told lost is t l) k =
-    behind-ids schema lost (end_behind told (record e { stack = drop 1 e.stack })) built (behind-ids schema told (record e { stack = drop 1 e.stack }) built (record { tree = k.tree; known = k.known; pending = tt }))
+    following-ids schema lost (end_after told (record e { stack = drop 1 e.stack })) built (following-ids schema told (record e { stack = drop 1 e.stack }) built (record { tree = k.tree; known = k.known; pending = tt }))
 first-ids schema fresh built (part.resumes wait row on_top found) k = record { tree = k.tree; known = k.known; pending = tt }
 
 pub delivery-ids : (schema : Schema) (fresh : List ℤ) (built : List BuiltActor) (packet : Packet) {e f : End} {ws : List What} {ps : List Packet} {p : Phase} → DeliveryPart schema packet e ws ps f p → HasNextId schema e packet → HasIds schema fresh e built → HasIds schema p.fresh f built
 delivery-ids schema fresh built packet {e} (part.gets_request m row vs body found none) next k = request-ids schema fresh e built m row vs body found (next row vs body found) k
 delivery-ids schema fresh built packet {e} (part.replaces m row vs old sync level replies body found is makes) next k =
-    behind-ids schema replies (delivery.counted row (delivery.item_of row m) e) built (request-ids schema fresh e built m row vs body found (next row vs body found) k)
+    following-ids schema replies (delivery.counted row (delivery.item_of row m) e) built (request-ids schema fresh e built m row vs body found (next row vs body found) k)
 delivery-ids schema fresh built packet (part.gets_answer m row a body found is) next k = record { tree = k.tree; known = k.known; pending = tt }
 delivery-ids schema fresh built packet {e} (part.gets_reply m row a body found is) next k =
     record { tree = k.tree; known = arrives-ids schema fresh e built (delivery.item_of row m) (not_request schema m (is_sync_row row) row.level (reply-body a m.body body)) k; pending = tt }

@@ -1,4 +1,4 @@
--- What the lines of a part say of actors.
+-- What the lines of a part show of actors.
 use Rattle.std.proofs.Common.{◌≡◌, ℕ, ◌+◌, ℤ, Bool, true, false, if◌then◌else◌, List, [], ◌∷◌, map, filter, Option, refl, ap, ◌∙◌}
 use Rattle.std.specs.List.{AllByRecursion}
 use Rattle.ipdl_base.specs.declared.kinds.Reason.{Reason}
@@ -27,7 +27,7 @@ use Rattle.channel_laws.specs.Tested.{after_whats, EndLinesPass}
 use Rattle.channel_laws.proofs.PartLines.{mapped-lines}
 use Rattle.channel_laws.proofs.Testing.{tested-free}
 
--- Effects that say nothing of actors
+-- Effects that show nothing of actors
 
 pub data SaysNoActor : What → Type 0 where
   replaced : (n : ℤ) → SaysNoActor (what.Replaced n)
@@ -63,7 +63,7 @@ pub no_actor-read : (schema : Schema) (place : ℕ) (ws : List What) (own : EndR
 no_actor-read schema place [] own l = refl
 no_actor-read schema place (w ∷ ws) own l = no_actor-read schema (place + 1) ws (after_what schema place w own) l.1 ∙ no_actor-one schema place w own l.0
 
--- Which effects these are
+-- The kinds of these effects
 
 pub no_actor-reply : (b : Bool) (q : AnsweredRequest) (a : Answer) → AllByRecursion SaysNoActor (reply_lines b q a)
 no_actor-reply true q (answer.Ok vs) = (says_ok q.seq vs, tt)
@@ -80,7 +80,7 @@ pub no_actor-settles : (seq : ℤ) (o : Outcome) → SaysNoActor (settle_line se
 no_actor-settles seq (Resolved vs) = resolved seq vs
 no_actor-settles seq (Rejected r) = rejected seq r
 
--- and all of them pass the law
+-- all of them pass the law
 
 passes-one : (w : What) → SaysNoActor w → (own : EndReading) → fallen_line own w ≡ true
 passes-one w (replaced n) own = refl

@@ -1,4 +1,4 @@
--- What the part that an event begins with, and one that is a delivery, say of actors.
+-- What the first part of an event, and the part of a delivery, show of actors.
 use Rattle.std.proofs.Common.{◌≡◌, ◌⊎◌, inl, inr, ℕ, ◌+◌, ℤ, Bool, true, false, cond, if◌then◌else◌, List, [], ◌∷◌, ◌++◌, drop, map, Option, Some, None, refl, sym, ap, subst, ◌∙◌}
 use Rattle.std.specs.List.{AllByRecursion}
 use Rattle.std.specs.Option.{option_map_or}
@@ -41,7 +41,7 @@ use Rattle.channel_model.specs.Events.{handled, kept}
 use Rattle.channel_model.specs.Numbers.{is_sync_row}
 use Rattle.channel_model.specs.Outputs.{is_closed, request_answered, resolver_answered}
 use Rattle.channel_model.specs.Parts as part
-use Rattle.channel_model.specs.Parts.{FirstPart, DeliveryPart, IsRefusal, IsRenaming, reply_lines, end_behind, farewell_item, farewell_line}
+use Rattle.channel_model.specs.Parts.{FirstPart, DeliveryPart, IsRefusal, IsRenaming, reply_lines, end_after, farewell_item, farewell_line}
 use Rattle.channel_model.specs.Phases.{EventStart, sends, ends, closes, other, FallCause, nobody, closing, kind_cause, Phase}
 use Rattle.channel_model.specs.Returns as return
 use Rattle.channel_model.specs.Sends as send
@@ -118,13 +118,13 @@ kind-shown Delete route = refl
 row-cause : (schema : Schema) (row : MessageRow) (number : ℕ) (route : ℤ) → message_of schema number ≡ Some row → rows.delete_cause schema number route ≡ shown_cause (kind_cause row.kind route)
 row-cause schema row number route found = ap (λ (r : Option MessageRow). option_map_or (λ (x : MessageRow). rows.kind_cause x.kind route) r read_cause.Nobody) found ∙ kind-shown row.kind route
 
--- nobody falls by a sync send
+-- no actor falls by a sync send
 sync-cause : (kind : Kind) (route : ℤ) (sync : Bool) → (kind ≡ Delete → sync ≡ false) → sync ≡ true → read_cause.Nobody ≡ shown_cause (kind_cause kind route)
 sync-cause Normal route sync async is = refl
 sync-cause (Constructor protocol) route sync async is = refl
 sync-cause Delete route sync async is = let k : true ≡ false = sym is ∙ async refl in cc
 
--- by a return actors fall for the request of the dispatch on top
+-- when a handler returns, actors fall because of the request of the dispatch on top
 return-cause : (schema : Schema) (hs : List CallFrame) (es : List StackEntry) (entry : StackEntry) (row : MessageRow) → map handled_frame hs ≡ map handled_entry es → return.dispatch_on_top es ≡ Some entry → message_of schema entry.number ≡ Some row
     → reading.return_cause schema hs ≡ shown_cause (kind_cause row.kind entry.route)
 return-cause schema hs [] entry row k e found = cc
@@ -144,7 +144,8 @@ return-cause schema (x ∷ hs) (y ∷ es) entry row k e found = by x y.frame (co
 
 -- What begins an event
 
--- An event has begun: nobody has fallen in it, its start and its cause are read, and the living actors are the same.
+-- An event has begun: no actor has fallen in it, its start and its cause are read, and the living actors are the
+-- same.
 pub record Begins (e f : End) (start : EventStart) (why : FallCause) (read after : ActorReading) : Type 0 where
   pub built : after.built ≡ read.built
   pub fallen : after.fallen ≡ read.fallen
@@ -155,19 +156,19 @@ pub record Begins (e f : End) (start : EventStart) (why : FallCause) (read after
   pub actors : f.actors ≡ e.actors
   pub over : after.over ≡ true → (is_closed f.state ≡ true) ⊎ (read.over ≡ true)
 
--- an event of no kind that a law names
+-- an event of no kind that the laws name
 quiet-begins : (e f : End) (read : ActorReading) (stack : List (Option HandledRequest)) → f.actors ≡ e.actors → stack ≡ map handled_entry f.stack
     → Begins e f other nobody read (record read { falls = []; event = read_event.Other; cause = read_cause.Nobody; handled = stack })
 quiet-begins e f read stack same k = record { built = refl; fallen = refl; falls = refl; event = refl; cause = refl; handled = k; actors = same; over = λ o. inr o }
 
-behind : (schema : Schema) (place : ℕ) (ws : List What) (own : EndReading) (e f : End) (start : EventStart) (why : FallCause) (read : ActorReading) → AllByRecursion SaysNoActor ws
+following : (schema : Schema) (place : ℕ) (ws : List What) (own : EndReading) (e f : End) (start : EventStart) (why : FallCause) (read : ActorReading) → AllByRecursion SaysNoActor ws
     → Begins e f start why read (actor_reading own) → Begins e f start why read (actor_reading (after_whats schema place ws own))
-behind schema place ws own e f start why read l k = subst (Begins e f start why read) (sym (no_actor-read schema place ws own l)) k
+following schema place ws own e f start why read l k = subst (Begins e f start why read) (sym (no_actor-read schema place ws own l)) k
 
 -- packets change neither actors nor frames
-behind-same : (b : Bool) (e f : End) (start : EventStart) (why : FallCause) (read after : ActorReading) → Begins e f start why read after → Begins e (end_behind b f) start why read after
-behind-same true e f start why read after k = record { built = k.built; fallen = k.fallen; falls = k.falls; event = k.event; cause = k.cause; handled = k.handled; actors = k.actors; over = k.over }
-behind-same false e f start why read after k = k
+following-same : (b : Bool) (e f : End) (start : EventStart) (why : FallCause) (read after : ActorReading) → Begins e f start why read after → Begins e (end_after b f) start why read after
+following-same true e f start why read after k = record { built = k.built; fallen = k.fallen; falls = k.falls; event = k.event; cause = k.cause; handled = k.handled; actors = k.actors; over = k.over }
+following-same false e f start why read after k = k
 
 refusal-begins : (schema : Schema) (place : ℕ) (w : What) (e : End) (own : EndReading) → IsRefusal schema w → map handled_frame own.stack ≡ map handled_entry e.stack → Begins e e other nobody (actor_reading own) (actor_reading (after_what schema place w own))
 refusal-begins schema place (what.RefusedSend c n) e own q k = quiet-begins e e (actor_reading own) (map handled_frame own.stack) refl k
@@ -258,13 +259,13 @@ first-begins schema sound place own {e} (part.dies_silent o alive) k = quiet-beg
 first-begins schema sound place own {e} (part.takes m sync level row vs next body found stays) k =
     record { built = refl; fallen = refl; falls = refl; event = refl; cause = refl; handled = ap (λ (fs : List (Option HandledRequest)). Some (record { seq = m.seq; route = m.route; number = m.number }) ∷ fs) k; actors = refl; over = λ o. inr o }
 first-begins schema sound place own {e} (part.drops m sync level row vs id replies next body found gone is) k =
-    behind-same replies e (part.left_end e) other nobody (actor_reading own) (actor_reading (after_whats schema (place + 1) (reply_lines replies (request_answered m) (answer.Fault ActorDestroyed)) (after_what schema place (what.Drop m.seq m.route m.number id) own)))
-    (behind schema (place + 1) (reply_lines replies (request_answered m) (answer.Fault ActorDestroyed)) (after_what schema place (what.Drop m.seq m.route m.number id) own) e (part.left_end e) other nobody (actor_reading own) (no_actor-reply replies (request_answered m) (answer.Fault ActorDestroyed))
+    following-same replies e (part.left_end e) other nobody (actor_reading own) (actor_reading (after_whats schema (place + 1) (reply_lines replies (request_answered m) (answer.Fault ActorDestroyed)) (after_what schema place (what.Drop m.seq m.route m.number id) own)))
+    (following schema (place + 1) (reply_lines replies (request_answered m) (answer.Fault ActorDestroyed)) (after_what schema place (what.Drop m.seq m.route m.number id) own) e (part.left_end e) other nobody (actor_reading own) (no_actor-reply replies (request_answered m) (answer.Fault ActorDestroyed))
     (quiet-begins e (part.left_end e) (actor_reading own) (map handled_frame own.stack) refl k))
 first-begins schema sound place own {e} (part.drops_unknown m sync level vs next body none) k = quiet-begins e (part.left_end e) (actor_reading own) (map handled_frame own.stack) refl k
 first-begins schema sound place own {e} (part.takes_reply m sync level a next body late) k = quiet-begins e (part.left_end e) (actor_reading own) (map handled_frame own.stack) refl k
 first-begins schema sound place own {e} {f} (part.settles m sync level row a next body found awaited) k =
-    behind schema (place + 1) (take.settle_line m.seq (part.reply_outcome schema e row a) ∷ []) (after_what schema place (what.TakeReply m.seq) own) e f other nobody (actor_reading own) (no_actor-settles m.seq (part.reply_outcome schema e row a), tt)
+    following schema (place + 1) (take.settle_line m.seq (part.reply_outcome schema e row a) ∷ []) (after_what schema place (what.TakeReply m.seq) own) e f other nobody (actor_reading own) (no_actor-settles m.seq (part.reply_outcome schema e row a), tt)
     (quiet-begins e f (actor_reading own) (map handled_frame own.stack) refl k)
 first-begins schema sound place own {e} (part.shuts last next is) k = shut-begins schema place last e own k
 first-begins schema sound place own {e} (part.returns entry row vs told lost is t l) k =
@@ -275,9 +276,9 @@ first-begins schema sound place own {e} (part.returns entry row vs told lost is 
     let start : EventStart = other in
     let why : FallCause = kind_cause row.kind entry.route in
     let after : ActorReading = actor_reading (after_whats schema (place + 1) (ls ++ ms) (after_what schema place line own)) in
-    behind-same lost e (end_behind told popped) start why (actor_reading own) after
-    (behind-same told e popped start why (actor_reading own) after
-    (behind schema (place + 1) (ls ++ ms) (after_what schema place line own) e popped start why (actor_reading own)
+    following-same lost e (end_after told popped) start why (actor_reading own) after
+    (following-same told e popped start why (actor_reading own) after
+    (following schema (place + 1) (ls ++ ms) (after_what schema place line own) e popped start why (actor_reading own)
     (all-append SaysNoActor ls ms (no_actor-reply told (return.dispatch_answered entry) (return.return_answer schema e row entry vs)) (no_actor-reply lost (resolver_answered (answering.resolver_in entry)) (answer.Fault ResolverDestroyed)))
     (record {
       built = refl;
@@ -298,17 +299,17 @@ delivery-begins schema place own packet {e} (part.replaces m row vs old sync lev
     let ws : List What = what.Replaced old.seq ∷ reply_lines replies (request_answered old) (answer.Fault ResolverDestroyed) in
     let next : EndReading = after_what schema place (what.DeliverRequest m.seq) own in
     let counted : End = delivery.counted row (delivery.item_of row m) e in
-    behind-same replies e counted other nobody (actor_reading own) (actor_reading (after_whats schema (place + 1) ws next))
-    (behind schema (place + 1) ws next e counted other nobody (actor_reading own) (replaced old.seq, no_actor-reply replies (request_answered old) (answer.Fault ResolverDestroyed))
+    following-same replies e counted other nobody (actor_reading own) (actor_reading (after_whats schema (place + 1) ws next))
+    (following schema (place + 1) ws next e counted other nobody (actor_reading own) (replaced old.seq, no_actor-reply replies (request_answered old) (answer.Fault ResolverDestroyed))
     (quiet-begins e counted (actor_reading own) (map handled_frame own.stack) refl k))
 delivery-begins schema place own packet {e} {f} (part.gets_answer m row a body found is) k = reply-begins m.seq e f own refl (k ∙ sym (answer-handled a e.stack))
 delivery-begins schema place own packet {e} {f} (part.gets_reply m row a body found is) k = reply-begins m.seq e f own refl k
 delivery-begins schema place own packet {e} {f} (part.drains p is) k =
-    behind schema (place + 1) (map what.Fails (delivery.unanswered e)) (after_what schema place (farewell_line p) own) e f ends nobody (actor_reading own) (no_actor-fails (delivery.unanswered e))
+    following schema (place + 1) (map what.Fails (delivery.unanswered e)) (after_what schema place (farewell_line p) own) e f ends nobody (actor_reading own) (no_actor-fails (delivery.unanswered e))
     (farewell-begins schema place p e f own refl (k ∙ sym (failed-handled e.stack)))
 delivery-begins schema place own packet {e} (part.passes_by m ordinary none) k = unknown-begins schema place m.seq m.body e own ordinary k
 
--- What is due behind the part that an event begins with is its cause
+-- What is due after the first part of an event is the event's cause
 
 pub first-due : {schema : Schema} {e f : End} {ws : List What} {ps : List Packet} {p : Phase} → FirstPart schema e ws ps f p → p.due ≡ p.cause
 first-due (part.refuses w is) = refl

@@ -37,7 +37,8 @@ use Rattle.channel_model.specs.Deliveries as delivery
 use Rattle.channel_model.specs.Ends.{End, Packet, message, mark, StackEntry, PromiseEntry, Naming}
 use Rattle.channel_model.specs.Falls as fall
 use Rattle.channel_model.specs.Names.{without_name}
-use Rattle.channel_model.specs.Numbers.{id_of, top_id, is_sync_row}
+use Rattle.ipdl_base.specs.Sides.{top_id}
+use Rattle.channel_model.specs.Numbers.{id_of, is_sync_row}
 use Rattle.channel_model.specs.Outputs.{request_answered, resolver_answered}
 use Rattle.channel_model.specs.Parts as part
 use Rattle.channel_model.specs.Parts.{FirstPart, LaterPart, LaterParts, OwnParts, DeliveryPart, IsRefusal, IsRenaming, reply_lines, farewell_line}
@@ -60,7 +61,7 @@ use Rattle.channel_laws.proofs.Growing.{whats-append}
 use Rattle.channel_laws.proofs.Standing.{ids_in, standing-falls, standing-last, alive-unfallen, alive-built, built-lives, built-more}
 use Rattle.channel_laws.proofs.Testing.{tested-append}
 
--- Nobody has the id 0
+-- No actor has the id 0
 
 id-not_zero : (side : Side) (k : ℕ) → 1 ≤ k → pos 0 ≢ id_of side k
 id-not_zero Parent k one e = let f : 0 ≡ 4 * k + 2 = cc in absurd (omega arith)
@@ -71,7 +72,7 @@ zero-free ids (inl e) = let f : ◌≡◌ {A = ℕ} 0 2147483647 = cc in absurd 
 zero-free ids (inr (inl (k, one, low, e))) = id-not_zero _ k one e
 zero-free ids (inr (inr (k, one, low, e))) = id-not_zero _ k one e
 
--- who lives was built, and has an id that is taken
+-- an actor that lives was built, and has an id that is taken
 pub lives-taken : (schema : Schema) (fresh : List ℤ) (e : End) (built : List BuiltActor) (fallen : List ℤ) → ShowsLiving e.actors built fallen → HasIds schema fresh e built → (id : ℤ) → lives id e.actors ≡ true → IsTaken (built_ids schema e built) id
 lives-taken schema fresh e built fallen shows ids id alive = ids.known.taken id (built-lives built id ∙ alive-built built fallen e.actors id shows.living alive)
 
@@ -105,7 +106,7 @@ route-shown ends = refl
 route-shown closes = refl
 route-shown other = refl
 
--- one that is still to be built was not built before
+-- an actor that is still to be built was not built before
 pub fresh-unbuilt : (schema : Schema) (p : Phase) (e : End) (read : ActorReading) (id : ℤ) (rest : List ℤ) → p.fresh ≡ id ∷ rest → KeepsActors schema p e read → was_built read.built id ≡ false
 fresh-unbuilt schema p e read id rest fresh k = let pending : IsPending (built_ids schema e read.built) (id ∷ rest) = subst (IsPending (built_ids schema e read.built)) fresh k.ids.pending in sym (built-lives read.built id) ∙ pending.1
 
@@ -158,7 +159,7 @@ all-ids : (P : ℤ → Type 0) (xs : List Actor) → ((x : Actor) → In x xs �
 all-ids P [] h = tt
 all-ids P (x ∷ xs) h = (h x here, all-ids P xs (λ y i. h y (there i)))
 
--- what is read behind the fall of a subtree is the end behind it
+-- what is read after the fall of a subtree is the end after it
 fallen-keeps : (schema : Schema) (p : Phase) (e : End) (read : ActorReading) (id : ℤ) → KeepsActors schema p e read → KeepsActors schema (record p { due = nobody }) (part.fallen_end id e) (fallen_reading read (post_order id e.actors))
 fallen-keeps schema p e read id k =
     let fs : List Actor = post_order id e.actors in
@@ -177,7 +178,7 @@ fallen-keeps schema p e read id k =
 due-now : (p : Phase) (e : End) (read : ActorReading) → p.due ≢ nobody → FallsAreWhole p e read → (p.due ≡ p.cause) × (read.falls ≡ [])
 due-now p e read some k = elim k.due [ inl none ↦ absurd (some none) | inr now ↦ now ]
 
--- and its lines pass, where each of them has its reason
+-- the lines of the fall pass, where each of them has its reason
 fallen-pass : (schema : Schema) (place : ℕ) (p : Phase) (e : End) (own : EndReading) (why : ℤ → Destroy) (id : ℤ) → own.falls ≡ []
     → ((a : Actor) → In a (post_order id e.actors) → lets_fall own.built own.cause a.id (why a.id) ≡ true) → KeepsActors schema p e (actor_reading own)
     → EndLinesPass schema IsFallenLine place (part.fall_lines id why e) own
@@ -206,7 +207,7 @@ falls-kept schema place p e own why id none allowed k = record {
 quiet-kept : (schema : Schema) (place : ℕ) (ws : List What) (own : EndReading) (q : Phase) (f : End) → AllByRecursion SaysNoActor ws → KeepsActors schema q f (actor_reading own) → KeptBy schema place ws own q f
 quiet-kept schema place ws own q f l k = record { pass = no_actor-pass schema place ws own l; kept = subst (KeepsActors schema q f) (sym (no_actor-read schema place ws own l)) k }
 
--- one behind another
+-- one part after another
 then-kept : (schema : Schema) (place : ℕ) (ws vs : List What) (own : EndReading) (p q : Phase) (f g : End) → KeptBy schema place ws own p f → ((at : ℕ) → KeptBy schema at vs (after_whats schema place ws own) q g) → KeptBy schema place (ws ++ vs) own q g
 then-kept schema place ws vs own p q f g first rest =
     let s = whats-append schema place ws vs own in
@@ -251,7 +252,7 @@ later-parts-kept schema place own (part.then {p} {q} {r} {e} {f} {g} {ws} {vs} o
 
 -- What begins an event
 
--- behind its first part an end is in a phase
+-- after its first part an end is in a phase
 begun-keeps : (schema : Schema) (e f : End) (own : EndReading) (p : Phase) (after : ActorReading) → ReadsActors schema e own → Begins e f p.start p.cause (actor_reading own) after → p.due ≡ p.cause → HasIds schema p.fresh f own.built → KeepsActors schema p f after
 begun-keeps schema e f own p after k b due ids = record {
   living = record {

@@ -23,7 +23,7 @@ use Rattle.channel_model.specs.Outputs.{Output, beginning, when, when_open, on_e
 use Rattle.channel_model.specs.Sends.{frames_of}
 use Rattle.channel_model.proofs.Known.{all-filter}
 use Rattle.channel_model.proofs.StateSteps.{no_waits}
-use Rattle.channel_laws.proofs.LastPackets.{empty-goes_on, ends-behind}
+use Rattle.channel_laws.proofs.LastPackets.{empty-goes_on, ends-following}
 use Rattle.channel_laws.proofs.SyncSteps.{SyncStep, no_step, ends, track_of, at-beginning, at-open, keeps-sync_step}
 use Rattle.channel_laws.proofs.Takes.{found-passes}
 use Rattle.channel_laws.proofs.Track.{IsOnTrack, at-put, at-sent, keeps-renamed, MayHold, all-found, held-agree, answered_reply}
@@ -62,7 +62,7 @@ used-resolver : (schema : Schema) (rows : HasSoundRows schema) (e : End) (stack 
 used-resolver schema rows e stack (handled seq) r h is = handled-resolver schema rows e seq r h.entries is
 used-resolver schema rows e stack (kept name number) r h is = kept-resolver schema number (held_by_name name e.names) r (held-agree schema name e.names (find (has_name name) e.names) refl h.names) is
 
--- a stack where a resolver is used agrees with its rows as it did
+-- a stack where a resolver is used still agrees with its rows
 
 released-agree_one : (schema : Schema) (b : Bool) (entry : StackEntry) → EntryAgrees schema entry → EntryAgrees schema (cond b (record entry { resolves = false }) entry)
 released-agree_one schema true entry h = record { row = h.row; found = h.found; is_sync = h.is_sync; resolves = λ r. cc }
@@ -72,7 +72,7 @@ released-agree : (schema : Schema) (seq : ℤ) (stack : List StackEntry) → All
 released-agree schema seq [] h = tt
 released-agree schema seq (entry ∷ stack) h = (released-agree_one schema (answers.has_resolver seq entry) entry h.0, released-agree schema seq stack h.1)
 
--- and shows what it showed
+-- the entry shows what it showed
 used-plain : (side : Side) (b : Bool) {frame : StackFrame} {route : ℤ} {number : ℕ} {resolves : Bool} {entries : List StackEntry} {stack : List SyncFrame} → ShowsFrames side (entry_of frame route number false ∷ entries) stack → ShowsFrames side (entry_of frame route number resolves ∷ entries) stack → ShowsFrames side (cond b (entry_of frame route number false) (entry_of frame route number resolves) ∷ entries) stack
 used-plain side true h k = h
 used-plain side false h k = k
@@ -122,7 +122,7 @@ without-arrived : (e : End) (by : Answering) → (answers.without_resolver by e)
 without-arrived e (handled seq) = refl
 without-arrived e (kept name number) = refl
 
--- a step of which the first part changes the end, and the others keep its track
+-- a step whose first part changes the end, and whose other parts keep its track
 then-keeps : (schema : Schema) (e next : End) (stack : List SyncFrame) (link : List Packet) (o : Output) → next.arrived ≡ e.arrived → IsOpenEnd schema next stack → IsOnTrack schema (track_of next) o.end o.packets → SyncStep schema e stack link link o
 then-keeps schema e next stack link o arrived h a =
     no_step (at-open schema (track_of next) o.end o.packets stack a h.shows h.entries h.arrived) (ap sync_calls (a.arrived_is ∙ arrived)) refl a.sent_is a.agree
@@ -196,7 +196,7 @@ close-unless : (schema : Schema) (e : End) (stack : List SyncFrame) (link : List
 close-unless schema e stack link (Some cause) is h = keeps-sync_step schema e stack link (line (what.RefusedClose cause) (beginning e)) h (at-beginning schema e stack h)
 close-unless schema e stack link None is h =
     let a = at-put schema (message acts.goodbye) tt (track_of e) (line what.Close (beginning e)) (at-beginning schema e stack h) in
-    ends refl (λ k. cc) (no_waits (frames_of e) (second_test (is_open e.state) (has_wait (frames_of e)) refusal.Closed refusal.InCall is)) (ends-behind (map message e.outbox) (message acts.goodbye ∷ []) (empty-goes_on schema (map message e.outbox) h.outbox) (last_alone refl)) a.sent_is a.agree
+    ends refl (λ k. cc) (no_waits (frames_of e) (second_test (is_open e.state) (has_wait (frames_of e)) refusal.Closed refusal.InCall is)) (ends-following (map message e.outbox) (message acts.goodbye ∷ []) (empty-goes_on schema (map message e.outbox) h.outbox) (last_alone refl)) a.sent_is a.agree
 
 pub closes : (schema : Schema) (e : End) (stack : List SyncFrame) (link : List Packet) → IsOpenEnd schema e stack → SyncStep schema e stack link link (acts.close e (beginning e))
 closes schema e stack link h = close-unless schema e stack link (acts.close_refusal e) refl h
@@ -206,4 +206,4 @@ dies schema e stack link h =
     let told : Output = line what.Die (beginning e) in
     let a = at-put schema mark tt (track_of e) told (at-beginning schema e stack h) in
     let same_output : when_open (put mark) told ≡ put mark told = ap (λ (s : EndState). when (is_open s) (put mark) told) h.state in
-    ends refl (λ k. cc) tt (subst (λ (o : Output). EndsInLastPacket o.packets) (sym same_output) (ends-behind (map message e.outbox) (mark ∷ []) (empty-goes_on schema (map message e.outbox) h.outbox) (last_alone refl))) (ap (λ (o : Output). sync_packets schema o.packets) same_output ∙ a.sent_is) (subst (λ (o : Output). AllByRecursion (PacketAgrees schema) o.packets) (sym same_output) a.agree)
+    ends refl (λ k. cc) tt (subst (λ (o : Output). EndsInLastPacket o.packets) (sym same_output) (ends-following (map message e.outbox) (mark ∷ []) (empty-goes_on schema (map message e.outbox) h.outbox) (last_alone refl))) (ap (λ (o : Output). sync_packets schema o.packets) same_output ∙ a.sent_is) (subst (λ (o : Output). AllByRecursion (PacketAgrees schema) o.packets) (sym same_output) a.agree)

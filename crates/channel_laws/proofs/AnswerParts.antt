@@ -35,10 +35,11 @@ use Rattle.channel_model.specs.Ends.{End, Packet, message, mark, StackEntry, Pro
 use Rattle.channel_model.specs.Events.{Answering, handled, kept}
 use Rattle.channel_model.specs.Falls as fall
 use Rattle.channel_model.specs.Names.{has_name, held_by_name, is_actor}
-use Rattle.channel_model.specs.Numbers.{other, top_id, is_sync_row, makes_promise}
+use Rattle.ipdl_base.specs.Sides.{other, top_id}
+use Rattle.channel_model.specs.Numbers.{is_sync_row, makes_promise}
 use Rattle.channel_model.specs.Outputs.{AnsweredRequest, request_answered, resolver_answered, is_open}
 use Rattle.channel_model.specs.Parts
-use Rattle.channel_model.specs.Parts.{FirstPart, LaterPart, DeliveryPart, IsRefusal, IsRenaming, end_behind, reply_lines, fall_lines, falling, farewell_item, farewell_line, shut_line, left_end, reply_outcome}
+use Rattle.channel_model.specs.Parts.{FirstPart, LaterPart, DeliveryPart, IsRefusal, IsRenaming, end_after, reply_lines, fall_lines, falling, farewell_item, farewell_line, shut_line, left_end, reply_outcome}
 use Rattle.channel_model.specs.Phases.{Phase}
 use Rattle.channel_model.specs.Refusals.{expected_seq}
 use Rattle.channel_model.specs.Returns as return
@@ -101,7 +102,7 @@ replied-append : (xs ys : List What) → replied_by_lines (xs ++ ys) ≡ replied
 replied-append [] ys = refl
 replied-append (x ∷ xs) ys = ap (λ (l : List PacketKind). replied_by x ++ l) (replied-append xs ys) ∙ sym (append_assoc (replied_by x) (replied_by_lines xs) (replied_by_lines ys))
 
--- the kinds of an answer, where there is one
+-- the kinds of an answer, if there is one
 abbrev reply_kinds : Bool → ℤ → List PacketKind
 reply_kinds b n = cond b (kind.Reply n ∷ []) []
 
@@ -129,7 +130,7 @@ settle-replied : (n : ℤ) (outcome : Outcome) → replied_by_lines (take.settle
 settle-replied n (Resolved vs) = refl
 settle-replied n (Rejected reason) = refl
 
--- how many replies to the request of a number
+-- the number of replies to the request of a number
 abbrev replied : ℤ → List PacketKind → ℕ
 replied n ks = how_many (is_packet (kind.Reply n)) ks
 
@@ -148,7 +149,7 @@ same-replied ks p none n = let m = many-last (is_packet (kind.Reply n)) ks p in 
 -- The same requests or fewer
 
 module _ (schema : Schema) where
-  -- an end that may answer no more than another
+  -- an end that may answer no more requests than another
   fewer : (e f : End) (ks more : List PacketKind) → IsAnsweredOnce schema e.side e.arrived e.stack e.names e.delivered ks → f.side ≡ e.side → f.delivered ≡ e.delivered → AllByRecursion (AnswersOneWay schema) f.stack
       → ((n : ℤ) → answers f.arrived f.stack f.names more n ≤ answers e.arrived e.stack e.names ks n) → IsAnsweredOnce schema f.side f.arrived f.stack f.names f.delivered more
   fewer e f ks more h side count entries less =
@@ -159,9 +160,9 @@ module _ (schema : Schema) where
   read-kept : (e : End) (own next : EndReading) → sent_kinds next ≡ sent_kinds own → AnswersOnce schema e own → AnswersOnce schema e next
   read-kept e own next same h = subst (IsAnsweredOnce schema e.side e.arrived e.stack e.names e.delivered) (sym same) h
 
-  behind-kept : (b : Bool) (e : End) (ks : List PacketKind) → IsAnsweredOnce schema e.side e.arrived e.stack e.names e.delivered ks → IsAnsweredOnce schema (end_behind b e).side (end_behind b e).arrived (end_behind b e).stack (end_behind b e).names (end_behind b e).delivered ks
-  behind-kept true e ks h = h
-  behind-kept false e ks h = h
+  following-kept : (b : Bool) (e : End) (ks : List PacketKind) → IsAnsweredOnce schema e.side e.arrived e.stack e.names e.delivered ks → IsAnsweredOnce schema (end_after b e).side (end_after b e).arrived (end_after b e).stack (end_after b e).names (end_after b e).delivered ks
+  following-kept true e ks h = h
+  following-kept false e ks h = h
 
   -- effects that answer nothing leave the answers
   effects-kept : (place : ℕ) (ws : List What) (e : End) (own : EndReading) → AreEffectLines ws → replied_by_lines ws ≡ [] → AnswersOnce schema e own → AnswersOnce schema e (after_whats schema place ws own)
@@ -244,7 +245,7 @@ module _ (schema : Schema) where
   return-bools true false true false alone = omega arith
   return-bools true false false same alone = omega arith
 
-  -- one request fewer has arrived
+  -- one request fewer is among what has arrived
   left-waiting : (e : End) (m : Message) (sync : Bool) (level : Level) (vs : Values) → take.taken_next e ≡ Some (item.Message m sync level) → m.body ≡ Request vs → (n : ℤ) → waiting n e.arrived ≡ one_if (int_eq m.seq n) + waiting n (left_end e).arrived
   left-waiting e m sync level vs next body n =
       let x : Item = item.Message m sync level in
@@ -323,7 +324,7 @@ module _ (schema : Schema) where
       let ws : List What = reply_lines replies (request_answered m) (answer.Fault ActorDestroyed) in
       let dropped : EndReading = after_what schema place (what.Drop m.seq m.route m.number id) own in
       let after : EndReading = after_whats schema (place + 1) ws dropped in
-      behind-kept replies (left_end e) (sent_kinds after)
+      following-kept replies (left_end e) (sent_kinds after)
       (fewer e (left_end e) (sent_kinds own) (sent_kinds after) h refl refl h.entries
       (λ n.
       let c = left-waiting e m sync level vs next body n in
@@ -359,8 +360,8 @@ module _ (schema : Schema) where
       let top = top-entry e.stack entry may.on_top in
       let ways : AllByRecursion (AnswersOneWay schema) (entry ∷ top.0) = subst (AllByRecursion (AnswersOneWay schema)) top.1 h.entries in
       let is_sync : is_sync_row row ≡ (head_of entry.frame).sync = ways.0.is_sync row top.2 may.found in
-      behind-kept lost (end_behind told_it popped) (sent_kinds after)
-      (behind-kept told_it popped (sent_kinds after)
+      following-kept lost (end_after told_it popped) (sent_kinds after)
+      (following-kept told_it popped (sent_kinds after)
       (fewer e popped (sent_kinds own) (sent_kinds after) h refl refl (drop-keeps schema e.stack h.entries)
       (λ n.
       let seq : ℤ = (head_of entry.frame).seq in
@@ -413,7 +414,7 @@ module _ (schema : Schema) where
       effects-kept place (ls ++ ms) e own (closing-effects why e)
       (replied-append ls ms ∙ (ap (λ (ks : List PacketKind). ks ++ replied_by_lines ms) (rejections-replied (λ x. true) ChannelClosed e.promises) ∙ falls-replied (λ id. why) (Parts.abandoned_end e).promises (falling top_id e))) h
 
-  -- one more request has arrived, behind those that were there
+  -- one more request has arrived, after those that were there
   one-arrived : (e : End) (m : Message) (row : MessageRow) (vs : Values) (ks : List PacketKind) → m.body ≡ Request vs → m.seq ≡ expected_seq e → IsAnsweredOnce schema e.side e.arrived e.stack e.names e.delivered ks → IsAnsweredOnce schema e.side (e.arrived ++ delivery.item_of row m ∷ []) e.stack e.names (e.delivered + 1) ks
   one-arrived e m row vs ks body is h =
       let new : Item = delivery.item_of row m in
@@ -447,7 +448,7 @@ module _ (schema : Schema) where
       let r = replaced-taken row.compress new e.arrived x is in
       let got : End = record e { arrived = e.arrived ++ new ∷ []; delivered = e.delivered + 1 } in
       let t : TakenFrom got.arrived next.arrived x = taken-before e.arrived (staying row.compress new e.arrived) (new ∷ []) x r.taken in
-      behind-kept replies next (sent_kinds after)
+      following-kept replies next (sent_kinds after)
       (fewer got next (sent_kinds own) (sent_kinds after) (one-arrived e m row vs (sent_kinds own) body (request-due schema e own m row vs body found due) h) refl refl h.entries
       (λ n.
       let c = leaves-count (is_packet (kind.Request n)) got.arrived next.arrived x t in

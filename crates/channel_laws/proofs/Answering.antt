@@ -1,4 +1,4 @@
--- How often a request may still be answered, as stacks, names and what was sent change.
+-- The number of times that a request may still be answered, as stacks, names and what was sent change.
 use Rattle.std.proofs.Common.{◌≡◌, ℕ, ◌+◌, ◌≤◌, ℤ, Bool, true, false, not, ◌&&◌, ◌||◌, cond, if◌then◌else◌, int_eq, List, [], ◌∷◌, drop, filter, find, map, Option, Some, None, option_map, option_and_then, ◌==◌, refl, sym, ap, subst, ◌∙◌, arith}
 use Rattle.std.specs.List.{AllByRecursion}
 use Rattle.std.proofs.lemmas.Option.{same_Some}
@@ -34,7 +34,7 @@ same-entries : (stack : List StackEntry) → delivery.with_frames (map (λ (x : 
 same-entries [] = refl
 same-entries (x ∷ xs) = ap (λ (ys : List StackEntry). x ∷ ys) (same-entries xs)
 
--- a frame is owed an answer by what it is, whatever answer it waits for
+-- whether a frame owes an answer does not depend on the answer that it waits for
 frame-owes : (n : ℤ) (entry : StackEntry) (f : StackFrame) → entry.frame ≡ f → owes_answer n (record entry { frame = f }) ≡ owes_answer n entry
 frame-owes n entry f is = ap (λ (g : StackFrame). owes_answer n (record entry { frame = g })) (sym is)
 
@@ -165,7 +165,7 @@ filter-fewer {A} test keeps (x ∷ xs) = by (keeps x) (filter-fewer test keeps x
 abbrev named : ℤ → List Naming → ℕ
 named n names = how_many (names_resolver n) names
 
--- the name whose resolver is used holds nothing more
+-- the name whose resolver is used has no content any more
 pub used-named : (n : ℤ) (name : List ℕ) (r : Resolver) (names : List Naming) → held_by_name name names ≡ Some (resolver r) → named n (without_name name names) + one_if (int_eq r.seq n) ≤ named n names
 used-named n name r [] e = cc
 used-named n name r (x ∷ xs) e = by (has_name name x) e (used-named n name r xs)
@@ -182,7 +182,7 @@ used-named n name r (x ∷ xs) e = by (has_name name x) e (used-named n name r x
         omega arith
     by false e rec = let low = rec e in omega arith
 
--- names that hold actors hold no resolver
+-- names of actors are not for resolvers
 pub actors-named : (n : ℤ) (more : List Naming) → AllByRecursion HoldsActor more → named n more ≡ 0
 actors-named n [] h = refl
 actors-named n (x ∷ xs) h = let rest = actors-named n xs h.1 in let none = by x.holds h.0 in omega arith
@@ -191,7 +191,7 @@ actors-named n (x ∷ xs) h = let rest = actors-named n xs h.1 in let none = by 
     by (actor id) h = refl
     by (resolver r) h = absurd h
 
--- the resolver of a name that is used is what the name held
+-- the resolver of a name that is used is the content that the name had
 pub used-held : (number : ℕ) (r : Resolver) (held : Option NameContent) → option_and_then (answering.resolver_of number) held ≡ Some r → held ≡ Some (resolver r)
 used-held number r None e = cc
 used-held number r (Some (actor id)) e = cc

@@ -19,17 +19,18 @@ use Rattle.nesting_core.specs.Top.{top_of}
 use Rattle.pending_queue.specs.declared.item.Item.{Item}
 use Rattle.pending_queue.specs.declared.item.Item.TheVariants as item
 use Rattle.pending_queue.specs.Compression.{is_request, replaced, staying}
-use Rattle.pending_queue.specs.Holding.{is_free}
+use Rattle.pending_queue.specs.DeferralContext.{is_free}
 use Rattle.promise_table.specs.declared.promise.Outcome.{Outcome}
 use Rattle.channel_model.specs.Answers as answering
 use Rattle.channel_model.specs.Deliveries as delivery
 use Rattle.channel_model.specs.Ends.{End, Packet, message, mark}
 use Rattle.channel_model.specs.Events.{Answering, handled, kept}
 use Rattle.channel_model.specs.Falls as fall
-use Rattle.channel_model.specs.Numbers.{top_id, is_sync_row}
+use Rattle.ipdl_base.specs.Sides.{top_id}
+use Rattle.channel_model.specs.Numbers.{is_sync_row}
 use Rattle.channel_model.specs.Outputs.{request_answered, resolver_answered, body_of}
 use Rattle.channel_model.specs.Parts
-use Rattle.channel_model.specs.Parts.{FirstPart, LaterPart, DeliveryPart, IsRefusal, IsRenaming, IsNoMessage, end_behind, reply_lines, fall_lines, farewell_item, farewell_line, shut_line, left_end, reply_outcome}
+use Rattle.channel_model.specs.Parts.{FirstPart, LaterPart, DeliveryPart, IsRefusal, IsRenaming, IsNoMessage, end_after, reply_lines, fall_lines, farewell_item, farewell_line, shut_line, left_end, reply_outcome}
 use Rattle.channel_model.specs.Phases.{Phase}
 use Rattle.channel_model.specs.Refusals.{expected_seq}
 use Rattle.channel_model.specs.Returns as return
@@ -122,16 +123,16 @@ same-kept f e own same h =
     (subst (λ (xs : List Item). HasArrivals e.side xs f.delivered (arrival_reading own)) (sym same.1)
     (subst (λ (n : ℕ). HasArrivals e.side e.arrived n (arrival_reading own)) (sym same.2) h))
 
-behind-same : (b : Bool) (e : End) → SameArrivals (end_behind b e) e
-behind-same true e = (refl, refl, refl)
-behind-same false e = (refl, refl, refl)
+following-same : (b : Bool) (e : End) → SameArrivals (end_after b e) e
+following-same true e = (refl, refl, refl)
+following-same false e = (refl, refl, refl)
 
 without-same : (by : Answering) (e : End) → SameArrivals (answering.without_resolver by e) e
 without-same (handled seq) e = (refl, refl, refl)
 without-same (kept name number) e = (refl, refl, refl)
 
-behind-kept : (b : Bool) (e : End) (own : EndReading) → ArrivalsAreRead e own → ArrivalsAreRead (end_behind b e) own
-behind-kept b e own h = same-kept (end_behind b e) e own (behind-same b e) h
+following-kept : (b : Bool) (e : End) (own : EndReading) → ArrivalsAreRead e own → ArrivalsAreRead (end_after b e) own
+following-kept b e own h = same-kept (end_after b e) e own (following-same b e) h
 
 -- What is taken
 
@@ -140,8 +141,8 @@ next-case true found x e = e
 next-case false found x e = cc
 
 -- the item that is taken is the first that is free
-pub taken-first : (e : End) (x : Item) → take.taken_next e ≡ Some x → FirstTaken (is_free (take.holding_of e)) e.arrived x
-taken-first e x next = first-taken (is_free (take.holding_of e)) e.arrived x (next-case (take.takes_in_state e.state && take.takes_under (top_of (send.frames_of e))) (take.first_free e) x next)
+pub taken-first : (e : End) (x : Item) → take.taken_next e ≡ Some x → FirstTaken (is_free (take.deferral_context_of e)) e.arrived x
+taken-first e x next = first-taken (is_free (take.deferral_context_of e)) e.arrived x (next-case (take.takes_in_state e.state && take.takes_under (top_of (send.frames_of e))) (take.first_free e) x next)
 
 pub request-leaves : (e : End) (own : EndReading) (m : Message) (sync : Bool) (level : Level) (vs : Values) → ArrivalsAreRead e own → take.taken_next e ≡ Some (item.Message m sync level) → m.body ≡ Request vs → Leaves e.arrived (left_end e).arrived (item.Message m sync level) (kind.Request m.seq)
 request-leaves e own m sync level vs h next body =
@@ -154,7 +155,7 @@ pub reply-is-taken : (e : End) (own : EndReading) (m : Message) (sync : Bool) (l
 reply-is-taken e own m sync level a h next body =
     let x : Item = item.Message m sync level in
     let f = taken-first e x next in
-    record { taken = f.taken; shows = reply-kind m.seq a m.body body; others = reply-alone (take.holding_of e) e.arrived m sync level a f h.async body }
+    record { taken = f.taken; shows = reply-kind m.seq a m.body body; others = reply-alone (take.deferral_context_of e) e.arrived m sync level a f h.async body }
 
 -- Parts
 
@@ -173,9 +174,9 @@ module _ (schema : Schema) where
   first-keeps-arrivals {e} place own (Parts.takes m sync level row vs next body found stays) h =
       request-goes e.side e.arrived (left_end e).arrived e.delivered (arrival_reading own) (item.Message m sync level) m.seq h (request-leaves e own m sync level vs h next body)
   first-keeps-arrivals {e} place own (Parts.drops m sync level row vs id replies next body found gone is) h =
-      effects-kept schema (place + 1) (reply_lines replies (request_answered m) (answer.Fault ActorDestroyed)) (end_behind replies (left_end e)) (after_what schema place (what.Drop m.seq m.route m.number id) own)
+      effects-kept schema (place + 1) (reply_lines replies (request_answered m) (answer.Fault ActorDestroyed)) (end_after replies (left_end e)) (after_what schema place (what.Drop m.seq m.route m.number id) own)
       (reply-effects replies (request_answered m) (answer.Fault ActorDestroyed))
-      (behind-kept replies (left_end e) (after_what schema place (what.Drop m.seq m.route m.number id) own)
+      (following-kept replies (left_end e) (after_what schema place (what.Drop m.seq m.route m.number id) own)
       (request-goes e.side e.arrived (left_end e).arrived e.delivered (arrival_reading own) (item.Message m sync level) m.seq h (request-leaves e own m sync level vs h next body)))
   first-keeps-arrivals {e} place own (Parts.drops_unknown m sync level vs next body found) h =
       request-goes e.side e.arrived (left_end e).arrived e.delivered (arrival_reading own) (item.Message m sync level) m.seq h (request-leaves e own m sync level vs h next body)
@@ -191,9 +192,9 @@ module _ (schema : Schema) where
       let ms : List What = reply_lines lost (resolver_answered (answering.resolver_in entry)) (answer.Fault ResolverDestroyed) in
       let popped : End = record e { stack = drop 1 e.stack } in
       let next : EndReading = after_what schema place (what.Return (head_of entry.frame).seq) own in
-      effects-kept schema (place + 1) (ls ++ ms) (end_behind lost (end_behind told popped)) next
+      effects-kept schema (place + 1) (ls ++ ms) (end_after lost (end_after told popped)) next
       (all-append IsEffectLine ls ms (reply-effects told (return.dispatch_answered entry) (return.return_answer schema e row entry vs)) (reply-effects lost (resolver_answered (answering.resolver_in entry)) (answer.Fault ResolverDestroyed)))
-      (behind-kept lost (end_behind told popped) next (behind-kept told popped next h))
+      (following-kept lost (end_after told popped) next (following-kept told popped next h))
   first-keeps-arrivals {e} place own (Parts.resumes wait row on_top found) h = subst (HasArrivals e.side e.arrived e.delivered) (sym (resume-left schema place wait.seq (received schema e.actors row wait.given) own)) h
 
   pub later-keeps-arrivals : {p q : Phase} {e f : End} {ws : List What} {ps : List Packet} (place : ℕ) (own : EndReading) → LaterPart p e ws ps f q → ArrivalsAreRead e own → ArrivalsAreRead f (after_whats schema place ws own)
@@ -206,7 +207,7 @@ module _ (schema : Schema) where
   later-keeps-arrivals {e} place own (Parts.deletes id is) h = effects-kept schema place (fall_lines id (fall.why_deleted id) e) e own (fall-effects id (fall.why_deleted id) e) h
   later-keeps-arrivals {e} place own (Parts.falls why is) h = effects-kept schema place (Parts.abandoned_lines e ++ fall_lines top_id (λ id. why) (Parts.abandoned_end e)) e own (closing-effects why e) h
 
-  -- what is due of a request, and of a reply
+  -- the conditions for a request, and for a reply, to be due
   due-row : (e : End) (own : EndReading) (m : Message) (row : MessageRow) (body : Body) → message_of schema m.number ≡ Some row → IsDueMessage schema e own m body → m.body ≡ body → IsDueBody e own m (is_sync_row row) body
   due-row e own m row (Request vs) found due is = let same : due.0 ≡ row = same_Some due.0 row (sym due.1 ∙ found) in subst (IsDueBody e own m (is_sync_row row)) is (subst (λ (r : MessageRow). IsDueBody e own m (is_sync_row r) m.body) same due.2)
   due-row e own m row (Reply vs) found due is = let same : due.0 ≡ row = same_Some due.0 row (sym due.1 ∙ found) in subst (IsDueBody e own m (is_sync_row row)) is (subst (λ (r : MessageRow). IsDueBody e own m (is_sync_row r) m.body) same due.2)
@@ -262,7 +263,7 @@ module _ (schema : Schema) where
       by Goodbye is = refl
   farewell-other mark is n = refl
 
-  -- a request that replaces none lets all stay
+  -- if a request replaces no other, all stay
   pub staying-all : (row : MessageRow) (new : Item) (items : List Item) (old : Option Item) → replaced row.compress new items ≡ old → IsNoMessage old → staying row.compress new items ≡ items
   staying-all row new items None is none = none-replaced row.compress new items is
   staying-all row new items (Some item.Broken) is none = let r = replaced-taken row.compress new items item.Broken is in absurd (no-mark (alike-request new item.Broken r.alike))
@@ -277,7 +278,7 @@ module _ (schema : Schema) where
   request-shown seq (Fault reason) is = cc
   request-shown seq Goodbye is = cc
 
-  -- a request arrives behind items that stay
+  -- a request arrives after items that stay
   counted-kept : (e : End) (row : MessageRow) (m : Message) (vs : Values) (items : List Item) (a : ArrivalReading) → m.body ≡ Request vs → m.seq ≡ expected_seq e → HasArrivals e.side items e.delivered a → HasArrivals e.side (items ++ delivery.item_of row m ∷ []) (e.delivered + 1) (arriving (kind.Request m.seq) a)
   counted-kept e row m vs items a body is h =
       let shows : item_kind (delivery.item_of row m) ≡ kind.Request m.seq = request-kind m.seq vs m.body body in
@@ -300,8 +301,8 @@ module _ (schema : Schema) where
       let t : TakenFrom (e.arrived ++ new ∷ []) next.arrived (item.Message old sync level) = taken-before e.arrived (staying row.compress new e.arrived) (new ∷ []) (item.Message old sync level) r.taken in
       let h1 : HasArrivals e.side (e.arrived ++ new ∷ []) (e.delivered + 1) (arrival_reading got) = counted-kept e row m vs e.arrived (arrival_reading own) body (request-due e own m row vs body found due) h in
       let shows : item_kind (item.Message old sync level) ≡ kind.Request old.seq = request-shown old.seq old.body (alike-request new (item.Message old sync level) r.alike) in
-      effects-kept schema (place_of + 1) ls (end_behind replies next) lost (reply-effects replies (request_answered old) (answer.Fault ResolverDestroyed))
-      (behind-kept replies next lost
+      effects-kept schema (place_of + 1) ls (end_after replies next) lost (reply-effects replies (request_answered old) (answer.Fault ResolverDestroyed))
+      (following-kept replies next lost
       (request-replaced e.side (e.arrived ++ new ∷ []) next.arrived (e.delivered + 1) (arrival_reading got) (item.Message old sync level) old.seq h1
       (record { taken = t; shows = shows; others = request-alone e.side (e.arrived ++ new ∷ []) next.arrived (e.delivered + 1) (arrival_reading got) (item.Message old sync level) old.seq h1 t shows })))
   delivery-keeps-arrivals {e} place own (Parts.gets_answer m row a body found is) due h =

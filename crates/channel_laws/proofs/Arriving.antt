@@ -1,4 +1,4 @@
--- What arrives and leaves keeps the reading of arrivals.
+-- Arrivals and departures keep the reading of arrivals.
 use Rattle.std.proofs.Common.{◌≡◌, ℕ, ◌+◌, ◌≤◌, ℤ, Bool, true, false, not, List, [], ◌∷◌, ◌++◌, map, Some, refl, sym, ap, subst, ◌∙◌, arith}
 use Rattle.std.specs.List.{AllByRecursion}
 use Rattle.std.proofs.lemmas.Bool.{false≢true}
@@ -12,11 +12,12 @@ use Rattle.ipdl_base.specs.declared.message.Message.{Message}
 use Rattle.ipdl_base.specs.declared.value.Values.{Values}
 use Rattle.nesting_core.specs.declared.frame.Answer.{Answer}
 use Rattle.nesting_core.specs.declared.frame.Answer.TheVariants as answer
-use Rattle.pending_queue.specs.declared.holding.Holding.{Holding}
+use Rattle.pending_queue.specs.declared.deferral_context.DeferralContext.{DeferralContext}
 use Rattle.pending_queue.specs.declared.item.Item.{Item}
 use Rattle.pending_queue.specs.declared.item.Item.TheVariants as item
-use Rattle.pending_queue.specs.Holding.{is_free, arrival_of_body}
-use Rattle.channel_model.specs.Numbers.{other, seq_of}
+use Rattle.pending_queue.specs.DeferralContext.{is_free, arrival_of_body}
+use Rattle.ipdl_base.specs.Sides.{other}
+use Rattle.channel_model.specs.Numbers.{seq_of}
 use Rattle.channel_model.specs.Outputs.{body_of}
 use Rattle.channel_model.proofs.Known.{all-append}
 use Rattle.history_reading.specs.declared.parts.PacketKind.{PacketKind}
@@ -91,7 +92,7 @@ reply-delivered side items count a n h = record {
   numbered = fewer-once (other side) count (requests_delivered a) (requests_delivered (delivering (kind.Reply n) a)) h.numbered (same-delivered count a (kind.Reply n) (λ m. refl));
 }
 
--- nothing has arrived any more
+-- nothing more has arrived
 pub nothing-arrived : (side : Side) (items : List Item) (count : ℕ) (a : ArrivalReading) → HasArrivals side items count a → HasArrivals side [] count (record a { arrived = [] })
 nothing-arrived side items count a h = record {
   arrived = refl;
@@ -117,7 +118,7 @@ all-left P (y ∷ front) back x h = (h.0, all-left P front back x h.1)
 all-taken : (P : Item → Type 0) (items rest : List Item) (x : Item) → TakenFrom items rest x → AllByRecursion P items → AllByRecursion P rest
 all-taken P items rest x t h = subst (AllByRecursion P) (sym t.left) (all-left P t.front t.back x (subst (AllByRecursion P) t.whole h))
 
--- An item that leaves, with the packet that it shows, and none before it shows the same.
+-- An item that leaves, with the packet that it shows, where no item before it shows the same.
 pub record Leaves (items rest : List Item) (x : Item) (p : PacketKind) : Type 0 where
   pub taken : TakenFrom items rest x
   pub shows : item_kind x ≡ p
@@ -187,25 +188,25 @@ module _ (side : Side) (items rest : List Item) (count : ℕ) (a : ArrivalReadin
       let one : one_if (same_packet (item_kind x) (kind.Request n)) ≡ 1 = ap (λ (p : PacketKind). one_if (same_packet p (kind.Request n))) shows ∙ ap one_if (same_packet-refl (kind.Request n)) in
       subst (λ (p : PacketKind). AllByRecursion (λ q. same_packet q p ≡ false) (map item_kind t.front)) (sym shows) (none-passes (is_packet (kind.Request n)) (map item_kind t.front) (omega arith))
 
--- no reply before the first that is free shows the same: it would be as free
+-- no reply before the first free one shows the same packet: it would be free as well
 
--- No reply before the first that is free shows the same, since that would be as free.
+-- No reply before the first free one shows the same packet, since it would be free as well.
 
 -- what is deferred, by what arrives
-abbrev defers : Holding → Arrival → Bool
+abbrev defers : DeferralContext → Arrival → Bool
 defers holding arrival = defers_arrival holding.side holding.level (Some holding.transaction) arrival
 
-shows-other : (holding : Holding) (s : Bool) (level : Level) (transaction seq n : ℤ) (body : Body) → not (defers holding (reply false)) ≡ true → IsAsyncReply s body → not (defers holding (arrival_of_body s level transaction body)) ≡ false → same_packet (body_kind seq body) (kind.Reply n) ≡ false
+shows-other : (holding : DeferralContext) (s : Bool) (level : Level) (transaction seq n : ℤ) (body : Body) → not (defers holding (reply false)) ≡ true → IsAsyncReply s body → not (defers holding (arrival_of_body s level transaction body)) ≡ false → same_packet (body_kind seq body) (kind.Reply n) ≡ false
 shows-other holding s level transaction seq n (Request vs) free async deferred = refl
 shows-other holding s level transaction seq n (Reply vs) free async deferred = absurd (false≢true (sym deferred ∙ (ap (λ (b : Bool). not (defers holding (reply b))) async ∙ free)))
 shows-other holding s level transaction seq n (Fault reason) free async deferred = absurd (false≢true (sym deferred ∙ (ap (λ (b : Bool). not (defers holding (reply b))) async ∙ free)))
 shows-other holding s level transaction seq n Goodbye free async deferred = refl
 
-item-shows-other : (holding : Holding) (n : ℤ) (y : Item) → not (defers holding (reply false)) ≡ true → IsNoSyncReply y → is_free holding y ≡ false → same_packet (item_kind y) (kind.Reply n) ≡ false
+item-shows-other : (holding : DeferralContext) (n : ℤ) (y : Item) → not (defers holding (reply false)) ≡ true → IsNoSyncReply y → is_free holding y ≡ false → same_packet (item_kind y) (kind.Reply n) ≡ false
 item-shows-other holding n (item.Message m s level) free async deferred = shows-other holding s level m.transaction m.seq n m.body free async deferred
 item-shows-other holding n item.Broken free async deferred = refl
 
-all-show-others : (holding : Holding) (n : ℤ) (items : List Item) → not (defers holding (reply false)) ≡ true → AllByRecursion IsNoSyncReply items → AllByRecursion (λ y. is_free holding y ≡ false) items → AllByRecursion (λ q. same_packet q (kind.Reply n) ≡ false) (map item_kind items)
+all-show-others : (holding : DeferralContext) (n : ℤ) (items : List Item) → not (defers holding (reply false)) ≡ true → AllByRecursion IsNoSyncReply items → AllByRecursion (λ y. is_free holding y ≡ false) items → AllByRecursion (λ q. same_packet q (kind.Reply n) ≡ false) (map item_kind items)
 all-show-others holding n [] free async deferred = tt
 all-show-others holding n (y ∷ items) free async deferred = (item-shows-other holding n y free async.0 deferred.0, all-show-others holding n items free async.1 deferred.1)
 
@@ -213,7 +214,7 @@ all-front : (P : Item → Type 0) (front back : List Item) (x : Item) → AllByR
 all-front P [] back x h = (tt, h.0)
 all-front P (y ∷ front) back x h = let r = all-front P front back x h.1 in ((h.0, r.0), r.1)
 
-reply-free : (holding : Holding) (sync : Bool) (level : Level) (transaction : ℤ) (a : Answer) (body : Body) → body ≡ body_of a → IsAsyncReply sync body → not (defers holding (arrival_of_body sync level transaction body)) ≡ true → not (defers holding (reply false)) ≡ true
+reply-free : (holding : DeferralContext) (sync : Bool) (level : Level) (transaction : ℤ) (a : Answer) (body : Body) → body ≡ body_of a → IsAsyncReply sync body → not (defers holding (arrival_of_body sync level transaction body)) ≡ true → not (defers holding (reply false)) ≡ true
 reply-free holding sync level transaction (answer.Ok vs) body is async free =
     let none : sync ≡ false = subst (IsAsyncReply sync) is async in
     sym (ap (λ (b : Body). not (defers holding (arrival_of_body sync level transaction b))) is ∙ ap (λ (b : Bool). not (defers holding (reply b))) none) ∙ free
@@ -229,7 +230,7 @@ pub reply-kind : (seq : ℤ) (a : Answer) (body : Body) → body ≡ body_of a �
 reply-kind seq (answer.Ok vs) body is = ap (body_kind seq) is
 reply-kind seq (answer.Fault reason) body is = ap (body_kind seq) is
 
-pub reply-alone : (holding : Holding) (items : List Item) (m : Message) (sync : Bool) (level : Level) (a : Answer) → (f : FirstTaken (is_free holding) items (item.Message m sync level)) → AllByRecursion IsNoSyncReply items → m.body ≡ body_of a → ShowOthers (item.Message m sync level) f.taken.front
+pub reply-alone : (holding : DeferralContext) (items : List Item) (m : Message) (sync : Bool) (level : Level) (a : Answer) → (f : FirstTaken (is_free holding) items (item.Message m sync level)) → AllByRecursion IsNoSyncReply items → m.body ≡ body_of a → ShowOthers (item.Message m sync level) f.taken.front
 reply-alone holding items m sync level a f async body =
     let all = all-front IsNoSyncReply f.taken.front f.taken.back (item.Message m sync level) (subst (AllByRecursion IsNoSyncReply) f.taken.whole async) in
     subst (λ (p : PacketKind). AllByRecursion (λ q. same_packet q p ≡ false) (map item_kind f.taken.front)) (sym (reply-kind m.seq a m.body body))

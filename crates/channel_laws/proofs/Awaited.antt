@@ -1,4 +1,4 @@
--- What sync frames say of the innermost wait, and of what is possible at an end.
+-- What sync frames show of the innermost wait, and of what is possible at an end.
 use Rattle.channel_laws.proofs.Track.{frames_in}
 use Rattle.std.proofs.Common.{◌≡◌, pos, Bool, true, false, not, ◌&&◌, cond, List, [], ◌∷◌, ◌++◌, map, find, Option, Some, None, option_and_then, is_some, refl, sym, ap, subst, ◌∙◌}
 use Rattle.std.specs.List.{AllByRecursion}
@@ -18,10 +18,10 @@ use Rattle.nesting_core.specs.declared.frame.Head.{Head}
 use Rattle.nesting_core.specs.Answers.{awaited}
 use Rattle.nesting_core.specs.Deferral.{awaited_level, inner_transaction}
 use Rattle.nesting_core.specs.Top.{top_of}
-use Rattle.pending_queue.specs.declared.holding.Holding.{Holding}
+use Rattle.pending_queue.specs.declared.deferral_context.DeferralContext.{DeferralContext}
 use Rattle.pending_queue.specs.declared.item.Item.{Item}
 use Rattle.pending_queue.specs.declared.item.Item.TheVariants as item
-use Rattle.pending_queue.specs.Holding.{is_free, arrival_of_body}
+use Rattle.pending_queue.specs.DeferralContext.{is_free, arrival_of_body}
 use Rattle.channel_model.specs.Deliveries as delivery
 use Rattle.ipdl_base.specs.declared.kinds.EndState.{EndState}
 use Rattle.ipdl_base.specs.declared.kinds.EndState.TheVariants.{Open}
@@ -102,7 +102,7 @@ returns-at schema e stack link head frames h is =
     let r = top-dispatch e.stack head frames is in
     returns-entry schema e link r.0 (subst (AllByRecursion (EntryAgrees schema)) r.1.1.0 h.entries).0 r.1.1.1
 
--- a call with its answer on top goes on
+-- a call with its answer on top continues
 top-answered : (stack : List StackEntry) (head : Head) (a : Answer) (frames : List StackFrame) → map (λ (x : StackEntry). x.frame) stack ≡ Wait head (Some a) ∷ frames → (entry : StackEntry) × ((below : List StackEntry) × ((stack ≡ entry ∷ below) × (returns.answered_wait_on_top stack ≡ Some (record { seq = head.seq; number = entry.number; given = a }))))
 top-answered [] head a frames is = cc
 top-answered (entry ∷ below) head a frames is =
@@ -137,20 +137,20 @@ item-few (item.Message m sync level) = body-few sync level m m.body
 item-few item.Broken = no_call
 
 -- what is awaited does not defer the call
-abbrev IsFreeUnder : Holding → Call → Type 0
+abbrev IsFreeUnder : DeferralContext → Call → Type 0
 IsFreeUnder h q = not (defers_arrival h.side h.level (Some h.transaction) (request_arrival true q.level q.transaction)) ≡ true
 
-listed-free : (h : Holding) (sync : Bool) (level : Level) (m : Message) (q : Call) → listed sync (call_of level m) ≡ q ∷ [] → IsFreeUnder h q → not (defers_arrival h.side h.level (Some h.transaction) (request_arrival sync level m.transaction)) ≡ true
+listed-free : (h : DeferralContext) (sync : Bool) (level : Level) (m : Message) (q : Call) → listed sync (call_of level m) ≡ q ∷ [] → IsFreeUnder h q → not (defers_arrival h.side h.level (Some h.transaction) (request_arrival sync level m.transaction)) ≡ true
 listed-free h true level m q e free = let s : q ≡ call_of level m = cc in subst (IsFreeUnder h) s free
 listed-free h false level m q e free = cc
 
-body-free : (h : Holding) (sync : Bool) (level : Level) (m : Message) (body : Body) (q : Call) → body_call sync level m body ≡ q ∷ [] → IsFreeUnder h q → not (defers_arrival h.side h.level (Some h.transaction) (arrival_of_body sync level m.transaction body)) ≡ true
+body-free : (h : DeferralContext) (sync : Bool) (level : Level) (m : Message) (body : Body) (q : Call) → body_call sync level m body ≡ q ∷ [] → IsFreeUnder h q → not (defers_arrival h.side h.level (Some h.transaction) (arrival_of_body sync level m.transaction body)) ≡ true
 body-free h sync level m (Request vs) q e free = listed-free h sync level m q e free
 body-free h sync level m (Reply vs) q e free = cc
 body-free h sync level m (Fault why) q e free = cc
 body-free h sync level m Goodbye q e free = cc
 
-item-free : (h : Holding) (x : Item) (q : Call) → item_call x ≡ q ∷ [] → IsFreeUnder h q → is_free h x ≡ true
+item-free : (h : DeferralContext) (x : Item) (q : Call) → item_call x ≡ q ∷ [] → IsFreeUnder h q → is_free h x ≡ true
 item-free h (item.Message m sync level) q e free = body-free h sync level m m.body q e free
 item-free h item.Broken q e free = cc
 
@@ -162,12 +162,12 @@ some-here : {A : Type 0} (b : Bool) (x : A) (later : Option A) → b ≡ true �
 some-here true x later h = refl
 some-here false x later h = cc
 
-found-at : (h : Holding) (x : Item) (items : List Item) (q : Call) {rest cs : List Call} → item_call x ≡ cs → AtMostOne cs → IsInserted q rest (cs ++ sync_calls items) → IsFreeUnder h q → ((some : List Call) → IsInserted q some (sync_calls items) → is_some (find (is_free h) items) ≡ true) → is_some (find (is_free h) (x ∷ items)) ≡ true
+found-at : (h : DeferralContext) (x : Item) (items : List Item) (q : Call) {rest cs : List Call} → item_call x ≡ cs → AtMostOne cs → IsInserted q rest (cs ++ sync_calls items) → IsFreeUnder h q → ((some : List Call) → IsInserted q some (sync_calls items) → is_some (find (is_free h) items) ≡ true) → is_some (find (is_free h) (x ∷ items)) ≡ true
 found-at h x items q e no_call i free later = some-later (is_free h x) x (find (is_free h) items) (later _ i)
 found-at h x items q e one_call here free later = some-here (is_free h x) x (find (is_free h) items) (item-free h x q e free)
 found-at h x items q e one_call (there i) free later = some-later (is_free h x) x (find (is_free h) items) (later _ i)
 
-found-free : (h : Holding) (items : List Item) (q : Call) {rest : List Call} → IsInserted q rest (sync_calls items) → IsFreeUnder h q → is_some (find (is_free h) items) ≡ true
+found-free : (h : DeferralContext) (items : List Item) (q : Call) {rest : List Call} → IsInserted q rest (sync_calls items) → IsFreeUnder h q → is_some (find (is_free h) items) ≡ true
 found-free h [] q i free = elim i [ ]
 found-free h (x ∷ items) q i free = found-at h x items q refl (item-few x) i free (λ some j. found-free h items q j free)
 
@@ -185,7 +185,7 @@ module _ (schema : Schema) (e : End) (stack : List SyncFrame) (link : List Packe
   not_possible : {A : Type 0} (b : Bool) → b ≡ true → b ≡ false → A
   not_possible b x y = let k : true ≡ false = sym x ∙ y in cc
 
-  -- a dispatch, or a wait with its answer, is not on top
+  -- the top is not a dispatch, and not an answered wait
   no_dispatch : {A : Type 0} (head : Head) (frames : List StackFrame) → frames_of e ≡ Dispatch head ∷ frames → A
   no_dispatch head frames is = not_possible (is_some (step schema e link (event.return None))) (returns-at schema e stack link head frames h is) r.return
 
@@ -197,10 +197,10 @@ module _ (schema : Schema) (e : End) (stack : List SyncFrame) (link : List Packe
   rests-no_return entries is (no_cpow (has_answer {head} {a} {entries = es} f p)) = no_answered head a (frames_in es) (ap frames_in is)
   rests-no_return entries is (cpow_on_top {head} {entries = es} s l p) = no_dispatch head (frames_in es) (ap frames_in is)
 
-  take-possible : {A : Type 0} (q : Call) {rest : List Call} → takes.takes_under (top_of (frames_of e)) ≡ true → IsInserted q rest (sync_calls e.arrived) → IsFreeUnder (takes.holding_of e) q → A
-  take-possible q under i free = not_possible (is_some (step schema e link event.take)) (takes-step schema e link h.state under (found-free (takes.holding_of e) e.arrived q i free)) r.take
+  take-possible : {A : Type 0} (q : Call) {rest : List Call} → takes.takes_under (top_of (frames_of e)) ≡ true → IsInserted q rest (sync_calls e.arrived) → IsFreeUnder (takes.deferral_context_of e) q → A
+  take-possible q under i free = not_possible (is_some (step schema e link event.take)) (takes-step schema e link h.state under (found-free (takes.deferral_context_of e) e.arrived q i free)) r.take
 
-  -- the entries are variable here
+  -- the entries are variables here
   rests-no_take : {A : Type 0} (q : Call) {rest : List Call} {below : List SyncFrame} (entries : List StackEntry) → e.stack ≡ entries → Shows e.side entries below → MayTake e.side below q → IsInserted q rest (sync_calls e.arrived) → A
   rests-no_take q entries is (no_cpow (no_answer empty)) may i =
       take-possible q (ap (λ (es : List StackEntry). takes.takes_under (top_of (frames_in es))) is) i

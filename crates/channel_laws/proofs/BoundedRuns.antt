@@ -17,7 +17,7 @@ use Rattle.channel_model.specs.Ends.{End, World, Packet, end_of, link_to, openin
 use Rattle.channel_model.specs.EventLines.{IsEffectOf, IsEventWithEffects}
 use Rattle.channel_model.specs.Events.{Event, Move}
 use Rattle.channel_model.specs.Events as event
-use Rattle.channel_model.specs.Numbers.{other}
+use Rattle.ipdl_base.specs.Sides.{other}
 use Rattle.channel_model.specs.Outputs.{Output, line_at}
 use Rattle.channel_model.specs.Runs.{RunState, output_of, passed_by, happens, run, world_after, after_event}
 use Rattle.channel_model.specs.StepLaws.{IsDeliveryOfOnePart}
@@ -41,7 +41,7 @@ use Rattle.channel_laws.proofs.Testing.{same-side}
 
 -- Lines of one event
 
--- lines count as so many lines and events of a side
+-- lines have n lines and k events of a side
 record Count (side : Side) (lines : List Line) (n k : ℕ) : Type 0 where
   all : lines_of side lines ≡ n
   events : events_of side lines ≡ k
@@ -72,7 +72,7 @@ own-count : (side : Side) (lines : List Line) → IsEventWithEffects side lines 
 own-count side [] h = absurd h
 own-count side (l ∷ ls) h = let c = count-line side l ls (length ls) 0 true false (is-same side l h.0.0) h.0.1 (effects-count side ls h.1) in record { all = let e = c.all in omega arith; events = c.events }
 
--- a line of a side is none of the other
+-- a line of a side is not of the other side
 none-line : (side : Side) (line : Line) (lines : List Line) → line.side ≡ side → NoneOf (other side) lines → NoneOf (other side) (line ∷ lines)
 none-line side line lines is h =
     let no : same_side line.side (other side) ≡ false = ap (λ (s : Side). same_side s (other side)) is ∙ differs side in
@@ -125,8 +125,8 @@ takes-off schema e link ev output is = by-parts schema e link ev output (TakesOf
 
 -- Moves
 
--- From one world to another a side's end prints at most five lines more than it has settled for each of its events, and
--- adds at most two packets for each.
+-- From one world to another, for each of its events a side's end prints at most five lines more than it settles, and
+-- adds at most two packets.
 record Adds (side : Side) (before : World) (after : RunState) : Type 0 where
   lines : lines_of side after.lines + unsettled (end_of side after.world) ≤ 5 * events_of side after.lines + unsettled (end_of side before)
   packets : length (delivered_at (other side) after.lines) + waiting_of side after.world ≤ 2 * events_of side after.lines + waiting_of side before

@@ -1,4 +1,4 @@
--- The request that comes first to an open end is the next of the other end: so says every run.
+-- In every run the request that comes first to an open end is the next of the other end.
 use Rattle.std.proofs.Common.{◌≡◌, true, List, ◌∷◌, drop, Some, subst}
 use Rattle.ipdl_base.specs.declared.kinds.Side.{Side}
 use Rattle.ipdl_base.specs.declared.kinds.Side.TheVariants.{Parent, Child}
@@ -10,7 +10,7 @@ use Rattle.ipdl_base.specs.declared.value.Values.{Values}
 use Rattle.ipdl_base.specs.Sound.{IsSound}
 use Rattle.history_reading.specs.Reading.{Reading}
 use Rattle.channel_model.specs.Ends.{End, World, Packet, message, end_of, link_to}
-use Rattle.channel_model.specs.Numbers.{other}
+use Rattle.ipdl_base.specs.Sides.{other}
 use Rattle.channel_model.specs.Outputs.{is_open}
 use Rattle.channel_model.specs.Steps.{first_packet}
 use Rattle.channel_laws.specs.RequestOrder.{IsNextRequest, BodyInOrder, InOrder, on_way, ComesInOrder, WorldInOrder}

@@ -1,4 +1,4 @@
--- How many of a list pass a test, and numbers that are counted once.
+-- Counts of the elements of a list that pass a test, and numbers that are counted once.
 use Rattle.std.proofs.Common.{◌≡◌, ℕ, zero, suc, ◌+◌, ◌≤◌, ℤ, Bool, true, false, ◌||◌, int_eq, List, [], ◌∷◌, ◌++◌, refl, sym, ap, ◌∙◌, arith}
 use Rattle.std.specs.List.{AllByRecursion, list_any}
 use Rattle.std.proofs.lemmas.Bool.Decides.{Decides-int_eq}
@@ -27,12 +27,12 @@ none-case : {A : Type 0} (test : A → Bool) (b : Bool) (x : A) (xs : List A) �
 none-case test true x xs is e = absurd (omega arith)
 none-case test false x xs is e = (is, omega arith)
 
--- where none is counted, each fails the test
+-- if no element is counted, each fails the test
 pub none-passes : {A : Type 0} (test : A → Bool) (xs : List A) → how_many test xs ≡ 0 → AllByRecursion (λ x. test x ≡ false) xs
 none-passes test [] e = tt
 none-passes test (x ∷ xs) e = let r = none-case test (test x) x xs refl e in (r.0, none-passes test xs r.1)
 
--- and the list has none
+-- and no element of the list passes
 pub none-any : {A : Type 0} (test : A → Bool) (xs : List A) → how_many test xs ≡ 0 → list_any test xs ≡ false
 none-any test [] e = refl
 none-any test (x ∷ xs) e = let r = none-case test (test x) x xs refl e in ap (λ (b : Bool). b || list_any test xs) r.0 ∙ none-any test xs r.1
@@ -41,7 +41,7 @@ any-case : {A : Type 0} (test : A → Bool) (b : Bool) (xs : List A) → (1 ≤ 
 any-case test true xs rest h = refl
 any-case test false xs rest h = rest (omega arith)
 
--- where some are counted, the list has one
+-- if some are counted, an element of the list passes
 pub some-any : {A : Type 0} (test : A → Bool) (xs : List A) → 1 ≤ how_many test xs → list_any test xs ≡ true
 some-any test [] h = absurd (omega arith)
 some-any test (x ∷ xs) h = any-case test (test x) xs (some-any test xs) h
@@ -67,7 +67,7 @@ next-once side sent count next n h is more = record {
   known = λ m low. more-known side sent count n m (int_eq n m) h is refl (let e = more m in omega arith);
 }
 
--- what counts no more keeps numbers counted once
+-- a smaller count keeps numbers counted once
 pub fewer-once : (side : Side) (sent : ℕ) (count next : ℤ → ℕ) → AreNumberedOnce side sent count → ((m : ℤ) → next m ≤ count m) → AreNumberedOnce side sent next
 fewer-once side sent count next h less = record {
   once = λ m. let e = less m in let low = h.once m in omega arith;

@@ -112,7 +112,7 @@ top-answered schema e a r (wait w ∷ below) rest new is h top =
     } in
     (below, (subst (λ (n : End). IsOpenEnd schema n below) (sym is) done, subst (λ (n : End). Step e.side (sync_end (wait w ∷ below) (sync_calls e.arrived) (reply r ∷ rest)) (sync_end below (sync_calls n.arrived) rest) []) (sym is) reply_arrives))
 
--- something that is no request arrives
+-- an item that is not a request arrives
 arrives-open : (schema : Schema) (e : End) (new : Item) (stack : List SyncFrame) → ItemAgrees schema new → IsOpenEnd schema e stack → IsOpenEnd schema (delivery.arrives new e) stack
 arrives-open schema e new stack agrees h = record {
   state = h.state;
@@ -162,7 +162,7 @@ module _ (schema : Schema) (e : End) (stack : List SyncFrame) (m : Message) (res
 
 -- Requests
 
--- what stays has the sync requests that were there, where each that is replaced is none
+-- the items that stay have the sync requests that were there, if no item that is replaced is one
 latest-silent_at : (b c : Bool) (x : Item) (items some : List Item) → (b ≡ true → item_call x ≡ []) → sync_calls some ≡ sync_calls items → sync_calls (cond (b && not c) items (x ∷ some)) ≡ item_call x ++ sync_calls items
 latest-silent_at true false x items some h e = ap (λ (qs : List Call). qs ++ sync_calls items) (sym (h refl))
 latest-silent_at true true x items some h e = ap (λ (qs : List Call). item_call x ++ qs) e
@@ -193,7 +193,7 @@ replaced-last new (Some old) x e =
     let r = replaced-last_at (are_alike new old) old x e in
     (ap (λ (i : Item). Some i) r.1, ap (are_alike new) (sym r.1) ∙ r.0)
 
--- an item is silent where it is alike to a new one
+-- an item is silent if it is like a new one
 abbrev IsSilentLike : Item → Item → Type 0
 IsSilentLike new old = are_alike new old ≡ true → item_call old ≡ []
 
@@ -208,7 +208,7 @@ staying-silent compress.Plain new items h = refl
 staying-silent compress.Last new items h = staying-last new items (replaced compress.Last new items) refl h
 staying-silent compress.All new items h = latest-silent (are_alike new) items h
 
--- what is replaced is alike, and what holds of all that is alike holds of it
+-- what is replaced is alike, and has every property of all that is alike
 latest-found_at : (p : Item → Bool) (P : Item → Type 0) (b c : Bool) (x old : Item) (later : Option Item) → c ≡ true ⊎ c ≡ false → cond c later (cond b (Some x) None) ≡ Some old → (b ≡ true → P x) → (later ≡ Some old → P old) → P old
 latest-found_at p P true false x old later k e h rest = subst P (same_Some x old e) (h refl)
 latest-found_at p P false false x old later k e h rest = cc
@@ -225,7 +225,7 @@ replaced-found compress.Last new old P items e h =
     all-at (λ x. are_alike new x ≡ true → P x) items (length items - 1) old h r.0 r.1
 replaced-found compress.All new old P items e h = latest-found (are_alike new) P items old e h
 
--- what is known of an item that is alike to a request that is not sync
+-- what is known of an item that is like a request that is not sync
 abbrev IsLike : Message → Item → Type 0
 IsLike m (item.Message old sync level) = (body_call sync level old old.body ≡ []) × (old.number ≡ m.number)
 IsLike m item.Broken = ⊥
@@ -253,7 +253,7 @@ module _ (schema : Schema) (rows : HasSoundRows schema) (m : Message) (row : Mes
   all-like : (items : List Item) → is_sync_row row ≡ false → AllByRecursion (ItemAgrees schema) items → AllByRecursion (λ old. are_alike (delivery.item_of row m) old ≡ true → IsLike m old) items
   all-like items is h = all-map (ItemAgrees schema) (λ old. are_alike (delivery.item_of row m) old ≡ true → IsLike m old) items (λ old agrees e. like old is agrees e) h
 
-  -- one that makes way is answered, and that is no sync reply
+  -- a request that is replaced is answered, by a reply that is not sync
   keeps-replacing : (old : Option Item) → is_sync_row row ≡ false → ((x : Item) → old ≡ Some x → IsLike m x) → KeepsTrack schema (delivery.replacing row old)
   keeps-replacing None is h w o a = a
   keeps-replacing (Some item.Broken) is h w o a = absurd (h item.Broken refl)

@@ -1,4 +1,4 @@
--- The lines of effects that stand behind the line of an event, and what a view of the reading keeps behind them.
+-- The lines of effects that follow the line of an event, and what a view of the reading keeps after them.
 use Rattle.std.proofs.Common.{◌≡◌, ℕ, ◌+◌, ℤ, Bool, List, [], ◌∷◌, ◌++◌, map, refl, ◌∙◌}
 use Rattle.std.specs.List.{AllByRecursion}
 use Rattle.ipdl_base.specs.declared.kinds.Destroy.{Destroy}
@@ -13,7 +13,7 @@ use Rattle.promise_table.specs.declared.promise.Outcome.TheVariants.{Resolved, R
 use Rattle.promise_table.specs.declared.promise.Promise.{Promise}
 use Rattle.channel_model.specs.Ends.{End, Packet, PromiseEntry}
 use Rattle.channel_model.specs.Falls as fall
-use Rattle.channel_model.specs.Numbers.{top_id}
+use Rattle.ipdl_base.specs.Sides.{top_id}
 use Rattle.channel_model.specs.Outputs.{AnsweredRequest}
 use Rattle.channel_model.specs.Parts
 use Rattle.channel_model.specs.Parts.{LaterPart, LaterParts, reply_lines, fall_lines, falling}
@@ -24,7 +24,7 @@ use Rattle.history_reading.specs.Reading.{after_what}
 use Rattle.channel_laws.specs.Tested.{after_whats}
 use Rattle.channel_laws.proofs.PartLines.{EffectsHave, reply-has, rejections-have, falls-have, closing-has, later-has, laters-have, mapped-lines}
 
--- A line of an effect, but for that of a request that is replaced.
+-- A line of an effect, except for that of a request that is replaced.
 pub data IsEffectLine : What → Type 0 where
   built : (id : ℤ) (protocol : ℕ) → IsEffectLine (what.Built id protocol)
   answers_ok : (n : ℤ) (vs : Values) → IsEffectLine (what.AnswerOk n vs)
@@ -66,7 +66,7 @@ later-effects = later-has IsEffectLine effects-have
 pub laters-effects : {p q : Phase} {e f : End} {ws : List What} {ps : List Packet} → LaterParts p e ws ps f q → AreEffectLines ws
 laters-effects = laters-have IsEffectLine effects-have
 
--- what each such line leaves, all of them leave
+-- what each such line leaves unchanged, all of them do
 pub effects-leave : {V : Type 0} (view : EndReading → V) (schema : Schema) → ((place : ℕ) (w : What) (own : EndReading) → IsEffectLine w → view (after_what schema place w own) ≡ view own) → (place : ℕ) (ws : List What) (own : EndReading) → AreEffectLines ws → view (after_whats schema place ws own) ≡ view own
 effects-leave view schema one place [] own h = refl
 effects-leave view schema one place (w ∷ ws) own h = effects-leave view schema one (place + 1) ws (after_what schema place w own) h.1 ∙ one place w own h.0

@@ -1,4 +1,5 @@
--- An end whose last event is the delivery of the end of the other is not open any more, so none of its calls waits.
+-- An end whose last event is the delivery of the other end's last packet is no longer open, so none of its calls
+-- waits.
 use Rattle.std.proofs.Common.{◌≡◌, ℕ, ◌+◌, Bool, true, false, List, [], ◌∷◌, ◌++◌, map, Some, refl, sym, ap, subst, ◌∙◌}
 use Rattle.std.specs.List.{AllByRecursion}
 use Rattle.ipdl_base.specs.declared.kinds.Side.{Side}
@@ -16,7 +17,7 @@ use Rattle.history_reading.specs.Waits.{is_end_event}
 use Rattle.channel_model.specs.Ends.{End, World, Packet, end_of, link_to}
 use Rattle.channel_model.specs.EventLines.{IsEventWithEffects, IsEffectOf}
 use Rattle.channel_model.specs.Events.{Event}
-use Rattle.channel_model.specs.Numbers.{other}
+use Rattle.ipdl_base.specs.Sides.{other}
 use Rattle.channel_model.specs.Outputs.{Output, AnsweredRequest, is_open, line_at}
 use Rattle.channel_model.specs.Parts as parts
 use Rattle.channel_model.specs.Parts.{DeliveryPart, reply_lines}
@@ -31,11 +32,11 @@ use Rattle.channel_laws.proofs.Outlines.{RepliesFit}
 use Rattle.channel_laws.proofs.Reached.{reached-has, all-pass}
 use Rattle.channel_laws.proofs.Runs.{IsReached, EveryMoveKeeps, AtEnds, at-ends, ends-keep, every-run}
 
--- the last event of an end tells that it is not open
+-- the last event of an end shows that it is not open
 abbrev pub EventTells : End → EndReading → Type 0
 EventTells e own = is_end_event own.event ≡ true → is_open e.state ≡ false
 
--- Lines of effects leave the event
+-- Lines of effects leave the event unchanged
 
 effect-event : (schema : Schema) (place : ℕ) (w : What) (h : EndReading) → is_effect w ≡ true → (after_what schema place w h).event ≡ h.event
 effect-event schema place (what.Built id protocol) h e = refl
@@ -52,7 +53,7 @@ effects-event : (schema : Schema) (side : Side) (at : Side) (place : ℕ) (ws : 
 effects-event schema side at place [] h e = refl
 effects-event schema side at place (w ∷ ws) h e = effects-event schema side at (place + 1) ws (after_what schema place w h) e.1 ∙ effect-event schema place w h e.0.1
 
--- an event that delivers nothing is no delivery of an end
+-- an event that delivers nothing does not deliver a last packet
 not-ending : (schema : Schema) (place : ℕ) (w : What) (h : EndReading) → is_effect w ≡ false → delivered_by w ≡ [] → is_end_event (after_what schema place w h).event ≡ false
 not-ending schema place (what.Built id protocol) h e d = cc
 not-ending schema place (what.Replaced n) h e d = cc
@@ -112,7 +113,7 @@ module _ (schema : Schema) (sound : IsSound schema) where
         kept = ends-keep schema EventTells side move.event w r output m.nested m.ends
             (move-tells schema r.lines (end_of side w) (end_of (other side) w) (end_reading_of side r) (other_of side r) (link_to side w) (link_to (other side) w) move.event output m.ends m.step)
             (at-ends schema EventTells side w r k).1;
-        passes = λ behind. all-pass schema r output.lines behind;
+        passes = λ following. all-pass schema r output.lines following;
       }
 
   pub tells-reached : (w : World) (r : Reading) → IsReached schema w r → AtEnds schema EventTells w r

@@ -1,4 +1,4 @@
--- Every step of an end that is not open: it sends nothing, and opens no more.
+-- Every step of an end that is not open: it sends nothing, and the end does not open again.
 use Rattle.channel_model.proofs.Tests.{and-left}
 use Rattle.std.proofs.Common.{◌≡◌, ℕ, ℤ, Bool, true, false, not, ◌||◌, if◌then◌else◌, List, [], ◌∷◌, Option, Some, None, option_and_then, refl, sym, ap, subst, ◌∙◌}
 use Rattle.std.specs.List.{AllByRecursion}
@@ -43,7 +43,7 @@ use Rattle.channel_model.specs.ValueActors.{nulled, received}
 use Rattle.channel_model.proofs.Provided.{provided-gives, found-gives}
 use Rattle.channel_model.proofs.StateSteps.{released-frames, popped-answered}
 
--- an end of a state, with nothing sent, that waits for nothing
+-- an end of a state that sends nothing, and waits for nothing
 record IsSilent (state : EndState) (o : Output) : Type 0 where
   state_is : o.end.state ≡ state
   nothing : o.packets ≡ []

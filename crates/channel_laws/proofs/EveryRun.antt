@@ -5,7 +5,7 @@ use Rattle.ipdl_base.specs.declared.kinds.Side.TheVariants.{Parent, Child}
 use Rattle.ipdl_base.specs.declared.schema.Schema.{Schema}
 use Rattle.ipdl_base.specs.declared.kinds.EndState.TheVariants.{Open}
 use Rattle.channel_model.specs.Ends.{End, World, end_of, link_to, opening}
-use Rattle.channel_model.specs.Numbers.{other}
+use Rattle.ipdl_base.specs.Sides.{other}
 use Rattle.channel_model.specs.Outputs.{is_open}
 use Rattle.channel_laws.proofs.Rows.{sound_schemas_have_sound_rows}
 use Rattle.channel_laws.proofs.WorldSteps.{opening-waits, move-waits, run-waits, flipped}
@@ -28,6 +28,6 @@ pub end-side : (schema : Schema) (side : Side) (w : World) → IsNestedWorld sch
 end-side schema Parent w h = h.parent
 end-side schema Child w h = h.child
 
--- an open end is not over
+-- an open end has not ended
 pub open-not_over : {A : Type 0} (e : End) → e.state ≡ Open → IsOver e → A
 open-not_over e is h = let k : true ≡ false = sym (ap is_open is) ∙ h.over in cc

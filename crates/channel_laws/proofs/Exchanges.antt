@@ -24,7 +24,8 @@ use Rattle.history_reading.specs.Numbers.{has, has_packet, same_packet}
 use Rattle.history_reading.specs.Prefix.{is_there, is_reply_there}
 use Rattle.history_reading.specs.SentPacket.{SentPacket, Request as SentRequest, packet_kind, requests_of}
 use Rattle.channel_laws.specs.AnswersOnce.{AnswersOnce, sent_kinds}
-use Rattle.channel_model.specs.Numbers.{other, sends, is_sync_row, is_constructor}
+use Rattle.ipdl_base.specs.Sides.{other, sends}
+use Rattle.channel_model.specs.Numbers.{is_sync_row, is_constructor}
 use Rattle.channel_model.specs.Refusals.{DeliveryRefusal, wrong_direction, wrong_number, wrong_new_id, stray, expected_seq, expected_id, is_replied_to, is_waited_for, is_promised, is_expected_reply, actor_refusal, body_refusal, packet_refusal}
 use Rattle.ipdl_base.specs.declared.schema.MessageRow.{MessageRow}
 use Rattle.ipdl_base.specs.Sound.{message_of}
@@ -125,7 +126,7 @@ request-there e own m sync level vs h next body =
     (none-any (is_number n) own.replaced (omega arith))
     (none-any (is_number n) own.gone (omega arith))
 
--- a reply that is taken was delivered, and is taken for the first time, where it was delivered once
+-- a reply that is taken was delivered, and is taken for the first time, if it was delivered once
 pub reply-there : (e : End) (own : EndReading) (m : Message) (sync : Bool) (level : Level) (a : Answer) → ArrivalsAreRead e own → taken_next e ≡ Some (item.Message m sync level) → m.body ≡ body_of a → replies_delivered (arrival_reading own) m.seq ≤ 1 → is_reply_there own m.seq ≡ true
 reply-there e own m sync level a h next body once =
     let n : ℤ = m.seq in
@@ -146,12 +147,12 @@ told-kinds side (p ∷ sent) = ap (λ (k : PacketKind). k ∷ map note_kind (tol
 pub replies-once : (schema : Schema) (theirs : End) (others own : EndReading) (link : List Packet) → LinkAccount schema theirs others own link → AnswersOnce schema theirs others → (n : ℤ) → replies_delivered (arrival_reading own) n ≤ 1
 replies-once schema theirs others own link account h n =
     let test : PacketKind → Bool = is_packet (kind.Reply n) in
-    let behind : List Note = notes schema link ++ (notes schema (map message theirs.outbox) ++ account.sent.lost) in
-    let whole : sent_kinds others ≡ own.delivered ++ map note_kind behind =
+    let following : List Note = notes schema link ++ (notes schema (map message theirs.outbox) ++ account.sent.lost) in
+    let whole : sent_kinds others ≡ own.delivered ++ map note_kind following =
     sym (told-kinds theirs.side others.sent)
     ∙ (ap (map note_kind) (account.sent.whole ∙ append_assoc account.got (notes schema link) (notes schema (map message theirs.outbox) ++ account.sent.lost))
-    ∙ (map-append note_kind account.got behind ∙ ap (λ (ks : List PacketKind). ks ++ map note_kind behind) account.kinds)) in
-    let count = ap (how_many test) whole ∙ many-append test own.delivered (map note_kind behind) in
+    ∙ (map-append note_kind account.got following ∙ ap (λ (ks : List PacketKind). ks ++ map note_kind following) account.kinds)) in
+    let count = ap (how_many test) whole ∙ many-append test own.delivered (map note_kind following) in
     let once = h.numbered.once n in
     omega arith
 
@@ -170,7 +171,7 @@ module _ (schema : Schema) (e : End) (own : EndReading) (h : ReadsExchanges sche
   same-number : (m : Message) (seq : ℤ) (number : ℕ) (route : ℤ) → is_replied_to m seq number route ≡ true → m.seq ≡ seq
   same-number m seq number route is = (Decides-int_eq m.seq seq).0 (and-left (int_eq m.seq seq) ((m.number == number + 1) && int_eq m.route route) is)
 
-  -- the reply that a wait awaits is to a sync request
+  -- the reply that a wait waits for is to a sync request
   awaited-sync : (m : Message) → is_waited_for e m ≡ true → is_sync_request own m.seq ≡ true
   awaited-sync m is = by (find (λ entry. is_unanswered entry.frame) e.stack) refl is
     where
@@ -185,7 +186,7 @@ module _ (schema : Schema) (e : End) (own : EndReading) (h : ReadsExchanges sche
           ap (is_sync_request own) (same-number m (head_of entry.frame).seq entry.number entry.route is)
           ∙ all-found (IsOwnWait own) (λ x. is_unanswered x.frame) e.stack entry h.waits.waits there (no-dispatch entry.frame (found-passes (λ x. is_unanswered x.frame) e.stack entry there))
 
-  -- and that for which a promise was made is to an async one
+  -- the reply for which a promise was made is to an async request
   promised-async : (m : Message) → is_promised e m ≡ true → is_sync_request own m.seq ≡ false
   promised-async m is = each e.promises (own-entries e.side e.promises e.sent (promise_reading own) h.promises) is
     where

@@ -1,5 +1,5 @@
--- In which order the actors of a subtree fall, as the tree of living actors says it: each behind all that it manages, and
--- behind the older ones of its manager.
+-- The order in which the actors of a subtree fall, by the tree of living actors: each after all that it manages, and
+-- after the older ones of its manager.
 use Rattle.std.proofs.Common.{◌≡◌, ◌≢◌, ◌⊎◌, inl, inr, ℤ, pos, Bool, true, false, ◌||◌, cond, if◌then◌else◌, int_eq, List, [], ◌∷◌, ◌++◌, reverse, map, refl, sym, ap, subst, ◌∙◌, append_assoc}
 use Rattle.std.proofs.lemmas.Bool.{cases_Bool}
 use Rattle.std.proofs.lemmas.List.{reverse-append}
@@ -67,7 +67,7 @@ in-cons : (x y : Actor) (xs ys : List Actor) → In x (y ∷ xs) → (In x xs �
 in-cons x y xs ys here rec = here
 in-cons x y xs ys (there k) rec = there (rec k)
 
--- one that stands in a list, with what is before and behind it
+-- an element of a list, with what is before and after it
 record StandsAt (id : ℤ) (xs : List Actor) : Type 0 where
   found : Actor
   front : List Actor
@@ -85,7 +85,7 @@ splits-at x [] i = elim i [ ]
 splits-at x (y ∷ xs) here = ([], (xs, refl))
 splits-at x (y ∷ xs) (there i) = let r = splits-at x xs i in (y ∷ r.0, (r.1.0, ap (λ (l : List Actor). y ∷ l) r.1.1))
 
--- who is managed was made behind its manager
+-- an actor that is managed was made after its manager
 
 not-yet : (id : ℤ) (older : List Actor) (y : Actor) → lives id older ≡ false → y.id ≢ id → lives id (older ++ y ∷ []) ≡ false
 not-yet id older y h n = lives-false id (older ++ y ∷ []) (λ k. elim (Has-append id older (y ∷ []) k) [
@@ -121,7 +121,7 @@ managed-fell id actors front a back x tree order n i e =
 
 -- Older ones of the same manager
 
--- of two ids in a list, the first stands before the other
+-- of two ids in a list, the first is before the other
 abbrev pub precedes : List ℤ → ℤ → ℤ → Bool
 precedes [] b a = false
 precedes (x ∷ xs) b a = if int_eq x b then true else (if int_eq x a then false else precedes xs b a)
@@ -285,7 +285,7 @@ older-fell id actors front a back b tree zero order i e = elim (falls_later id a
 
 -- Below the actor whose subtree falls
 
--- the actor of an id is one
+-- an id has one actor
 same-made : (older later : List Actor) (x y : Actor) → AreMadeAfter older later → In x later → In y later → x.id ≡ y.id → x ≡ y
 same-made older [] x y t i j e = elim i [ ]
 same-made older (z ∷ later) x y t here here e = refl
@@ -321,7 +321,7 @@ pub or-right : (b c : Bool) → c ≡ true → b || c ≡ true
 or-right true c e = refl
 or-right false c e = e
 
--- Every actor of some older ones that falls by the fall of another is below it.
+-- Every actor of some older ones that falls when another falls is below that one.
 abbrev AreBelow : ℤ → List Actor → List Actor → Type 0
 AreBelow id actors older = (x : Actor) → In x older → In x (post_order id actors) → x.id ≢ id → climbs (latest_first older) x.id id ≡ true
 
@@ -365,7 +365,7 @@ below-all id actors older (c ∷ later) tree is t rec =
     below-all id actors (older ++ c ∷ []) later tree (is ∙ sym (append_assoc older (c ∷ []) later)) t.2
     (below-more id actors older c tree (λ x i. subst (In x) (sym is) (in-left older (c ∷ later) x i)) t.0 (inl t.1) rec)
 
--- who falls with an actor is below it
+-- an actor that falls with another is below it
 pub falls-below : (id : ℤ) (actors : List Actor) → IsTree actors → lives (pos 0) actors ≡ false → AreBelow id actors actors
 falls-below id [] tree zero = λ x i falls n. elim i [ ]
 falls-below id (x ∷ later) tree zero =

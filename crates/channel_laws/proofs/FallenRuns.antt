@@ -28,7 +28,8 @@ use Rattle.channel_model.specs.Actors.{ids_of, AreKnown, IsTopOf, IsNew}
 use Rattle.channel_model.specs.Ends.{End, World, Packet, message, mark, end_of, link_to, opening, opening_end}
 use Rattle.channel_model.specs.Events.{Event, Move}
 use Rattle.channel_model.specs.Events as event
-use Rattle.channel_model.specs.Numbers.{other, id_of, top_id, is_constructor}
+use Rattle.ipdl_base.specs.Sides.{other, top_id}
+use Rattle.channel_model.specs.Numbers.{id_of, is_constructor}
 use Rattle.channel_model.specs.Outputs.{Output, is_open}
 use Rattle.channel_model.specs.Phases.{Phase}
 use Rattle.channel_model.specs.Refusals.{packet_refusal, body_refusal, expected_id, wrong_direction, wrong_number, wrong_new_id, actor_refusal}
@@ -48,7 +49,7 @@ use Rattle.channel_laws.specs.Tested.{after_whats, test_at}
 use Rattle.channel_laws.proofs.ActorsKept.{KeptBy, own-kept, delivery-kept, lives-taken}
 use Rattle.channel_laws.proofs.ComingRequests.{coming-request, reached-in-order}
 use Rattle.channel_laws.proofs.EveryRun.{end-side}
-use Rattle.channel_laws.proofs.Holding.{holds-in-runs}
+use Rattle.channel_laws.proofs.DeferralContext.{holds-in-runs}
 use Rattle.channel_laws.proofs.Moves.{StepParts, acts, delivers}
 use Rattle.channel_laws.proofs.Rows.{sound_schemas_have_sound_rows}
 use Rattle.channel_laws.proofs.Runs.{EveryMoveKeeps, AtEnds, at-ends, ends-keep, ends-pass, every-run, moment_at, moments-pass}
@@ -87,7 +88,7 @@ known-of schema e own k = record {
 
 -- Each end alone
 
--- behind a whole step
+-- after a whole step
 settled-reads : (schema : Schema) (e : End) (link : List Packet) (ev : Event) (output : Output) (place : ℕ) (ws : List What) (own : EndReading) (q : Phase) → step schema e link ev ≡ Some output → ReadsActors schema e own → KeptBy schema place ws own q output.end → ReadsActors schema output.end (after_whats schema place ws own)
 settled-reads schema e link ev output place ws own q is k b =
     let state : IsInState output.end = states_stay schema (top_protocol e.actors) e link ev output is (known-of schema e own k) k.state in
@@ -201,9 +202,9 @@ module _ (schema : Schema) (sound : IsSound schema) where
       record {
         kept = ends-keep schema (ReadsActors schema) side move.event w r output m.nested m.ends
             (settled-reads schema (end_of side w) (link_to side w) move.event output r.lines m.ends.whats (end_reading_of side r) m.ends.phase m.step ends.0 b) ends.1;
-        passes = λ behind. pass-both schema (moment_at (moment_test law.Fallen schema)) (test_at fallen_at) r output.lines behind
-            (moments-pass schema (moment_test law.Fallen schema) move w r output behind m.step (moment-is w r k))
-            (ends-pass schema fallen_at side move.event w r output behind m.nested m.ends b.pass);
+        passes = λ following. pass-both schema (moment_at (moment_test law.Fallen schema)) (test_at fallen_at) r output.lines following
+            (moments-pass schema (moment_test law.Fallen schema) move w r output following m.step (moment-is w r k))
+            (ends-pass schema fallen_at side move.event w r output following m.nested m.ends b.pass);
       }
 
 pub histories_obey_fallen : HistoriesObeyFallen

@@ -1,4 +1,4 @@
--- In every run that is not too long what the ends keep, and what is on the links, fits the schema.
+-- In every run that is not too long, what the ends keep and what is on the links fits the schema.
 use Rattle.std.proofs.Common.{◌≡◌, ℕ, Bool, true, false, List, [], ◌∷◌, Some, None, refl, subst, arith}
 use Rattle.std.specs.List.{AllByRecursion}
 use Rattle.ipdl_base.specs.declared.kinds.EndState.TheVariants.{Open}
@@ -88,7 +88,7 @@ module _ (schema : Schema) (sound : IsSound schema) where
       record { parent = before.parent; child = fits.end; parent_counted = before.parent_counted; child_counted = counts.1 before.child_counted; to_parent = all-append (FitsPacket schema) w.to_parent output.packets before.to_parent fits.packets; to_child = after-fits schema ev w.to_child before.to_child }
 
   moves-fit : EveryMoveKeeps schema FitsIfShort (λ r l b. true)
-  moves-fit move w r output m k = record { kept = step-fits move.side move.event w r output (accepts w r m.reached) m.step k; passes = λ behind. all-pass schema r output.lines behind }
+  moves-fit move w r output m k = record { kept = step-fits move.side move.event w r output (accepts w r m.reached) m.step k; passes = λ following. all-pass schema r output.lines following }
 
   opening-fits : (top : ℕ) → IsFittingWorld schema (opening top)
   opening-fits top = record { parent = (first_ends_fit schema top Parent).0; child = (first_ends_fit schema top Child).0; parent_counted = (first_ends_fit schema top Parent).1; child_counted = (first_ends_fit schema top Child).1; to_parent = tt; to_child = tt }

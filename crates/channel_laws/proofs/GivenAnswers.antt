@@ -1,4 +1,4 @@
--- Each step keeps what the answers of waits come from.
+-- Each step keeps the origins of the answers of waits.
 use Rattle.std.proofs.Common.{◌≡◌, ℕ, ◌+◌, ℤ, pos, Bool, true, false, ◌||◌, cond, if◌then◌else◌, int_eq, List, [], ◌∷◌, ◌++◌, drop, filter, map, Option, Some, None, refl, sym, ap, subst, ◌∙◌}
 use Rattle.std.specs.List.{AllByRecursion}
 use Rattle.std.specs.Option.{option_map_or}
@@ -33,7 +33,7 @@ use Rattle.channel_model.specs.Events.{Answering, Event, handled, kept}
 use Rattle.channel_model.specs.Numbers.{is_sync_row}
 use Rattle.channel_model.specs.Outputs.{Output, body_of}
 use Rattle.channel_model.specs.Parts as parts
-use Rattle.channel_model.specs.Parts.{FirstPart, LaterPart, LaterParts, OwnParts, DeliveryPart, end_behind, farewell_item, left_end}
+use Rattle.channel_model.specs.Parts.{FirstPart, LaterPart, LaterParts, OwnParts, DeliveryPart, end_after, farewell_item, left_end}
 use Rattle.channel_model.specs.Phases.{Phase}
 use Rattle.channel_model.specs.Sends as send
 use Rattle.channel_model.proofs.Known.{all-map}
@@ -43,7 +43,7 @@ use Rattle.channel_laws.specs.Notes.{Note, says, asks, told_note, told_notes, re
 use Rattle.channel_laws.specs.Notes as note
 use Rattle.channel_laws.specs.Origins.{IsRequested}
 use Rattle.channel_laws.specs.Tested.{after_whats}
-use Rattle.channel_laws.proofs.Growing.{whats-append, grows, in-before, in-behind}
+use Rattle.channel_laws.proofs.Growing.{whats-append, grows, in-before, in-following}
 use Rattle.channel_laws.proofs.Moves.{EndMove, StepParts, acts, delivers}
 use Rattle.channel_laws.proofs.Outlines.{RepliesFit}
 use Rattle.channel_laws.proofs.TwoEnds.{Arrival}
@@ -76,7 +76,7 @@ fails-one schema place _ h = ([], sym (append-nil h.failed))
 has-more : (next h : EndReading) (n : ℤ) → FailsMore next h → has h.failed n ≡ true → has next.failed n ≡ true
 has-more next h n m e = ap (λ (f : List ℤ). has f n) m.1 ∙ has-before h.failed m.0 n e
 
--- what has failed stays so
+-- calls that have failed stay failed
 failed-stays : (schema : Schema) (place : ℕ) (ws : List What) (h : EndReading) (n : ℤ) → has h.failed n ≡ true → has (after_whats schema place ws h).failed n ≡ true
 failed-stays schema place [] h n e = e
 failed-stays schema place (w ∷ ws) h n e = failed-stays schema (place + 1) ws (after_what schema place w h) n (has-more (after_what schema place w h) h n (fails-one schema place w h) e)
@@ -89,7 +89,7 @@ has-last (x ∷ f) n = by (int_eq x n) (has-last f n)
     by true e = refl
     by false e = e
 
--- a call whose line says so has failed
+-- a call has failed if its line shows so
 fails-in : (schema : Schema) (place : ℕ) (ns : List ℤ) (h : EndReading) (n : ℤ) → In n ns → has (after_whats schema place (map what.Fails ns) h).failed n ≡ true
 fails-in schema place [] h n i = elim i [ ]
 fails-in schema place (n ∷ ns) h _ here = failed-stays schema (place + 1) (map what.Fails ns) (after_what schema place (what.Fails n) h) n (has-last h.failed n)
@@ -117,7 +117,7 @@ module _ (sent more own further : List Note) (failed next : List ℤ) (stays : (
     waits = all-map (λ (x : StackEntry). FrameIsOwn own x x.frame) (λ (x : StackEntry). FrameIsOwn (own ++ further) x x.frame) e.stack (λ x h. own-grows x x.frame h) k.waits;
   }
 
--- Stacks, by what is said of each frame
+-- Stacks, by a property of each frame
 
 module _ (P : StackEntry → StackFrame → Type 0) (unresolved : (x : StackEntry) (f : StackFrame) → P x f → P (record x { resolves = false }) f) where
   released-one : (b : Bool) (x : StackEntry) → P x x.frame → P (cond b (record x { resolves = false }) x) (cond b (record x { resolves = false }) x).frame
@@ -145,9 +145,9 @@ module _ (schema : Schema) (sent own : List Note) where
   released-own : (seq : ℤ) (es : List StackEntry) → AllByRecursion (λ x. FrameIsOwn own x x.frame) es → AllByRecursion (λ x. FrameIsOwn own x x.frame) (answering.released seq es)
   released-own seq es h = released-all (λ x f. FrameIsOwn own x f) unresolved-own seq es h
 
-  behind-answers : (b : Bool) (failed : List ℤ) (e : End) → HasAnswers sent own failed e → HasAnswers sent own failed (end_behind b e)
-  behind-answers true failed e k = record { given = k.given; waits = k.waits }
-  behind-answers false failed e k = k
+  following-answers : (b : Bool) (failed : List ℤ) (e : End) → HasAnswers sent own failed e → HasAnswers sent own failed (end_after b e)
+  following-answers true failed e k = record { given = k.given; waits = k.waits }
+  following-answers false failed e k = k
 
   left-answers : (failed : List ℤ) (e : End) → HasAnswers sent own failed e → HasAnswers sent own failed (left_end e)
   left-answers failed e k = record { given = k.given; waits = k.waits }
@@ -155,7 +155,7 @@ module _ (schema : Schema) (sent own : List Note) where
   popped-answers : (failed : List ℤ) (e : End) → HasAnswers sent own failed e → HasAnswers sent own failed (record e { stack = drop 1 e.stack })
   popped-answers failed e k = record { given = all-drop (λ (x : StackEntry). FrameIsGiven sent failed x.frame) e.stack k.given; waits = all-drop (λ (x : StackEntry). FrameIsOwn own x x.frame) e.stack k.waits }
 
-  -- a part that a step begins with; the request of a call is an own one once its line is read
+  -- the first part of a step; the request of a call is the end's own once its line is read
   abbrev SentIsOwn : {q : Phase} {e f : End} {ws : List What} {ps : List Packet} → FirstPart schema e ws ps f q → Type 0
   SentIsOwn {e} (parts.sends row route vs name is) = is_sync_row row ≡ true → IsRequested own (send.request_of e row route vs).seq route row.number
   SentIsOwn _ = Unit {0}
@@ -180,13 +180,13 @@ module _ (schema : Schema) (sent own : List Note) where
   first-answers failed (parts.dies_silent o alive) new k = record { given = tt; waits = tt }
   first-answers {e} failed (parts.takes m sync level row vs next body found stays) new k =
       let l : HasAnswers sent own failed (left_end e) = left-answers failed e k in record { given = (tt, l.given); waits = (tt, l.waits) }
-  first-answers {e} failed (parts.drops m sync level row vs id replies next body found gone is) new k = behind-answers replies failed (left_end e) (left-answers failed e k)
+  first-answers {e} failed (parts.drops m sync level row vs id replies next body found gone is) new k = following-answers replies failed (left_end e) (left-answers failed e k)
   first-answers {e} failed (parts.drops_unknown m sync level vs next body none) new k = left-answers failed e k
   first-answers {e} failed (parts.takes_reply m sync level a next body late) new k = left-answers failed e k
   first-answers {e} failed (parts.settles m sync level row a next body found is) new k = let l : HasAnswers sent own failed (left_end e) = left-answers failed e k in record { given = l.given; waits = l.waits }
   first-answers failed (parts.shuts last next is) new k = record { given = k.given; waits = k.waits }
   first-answers {e} failed (parts.returns entry row vs told lost on_top t l) new k =
-      behind-answers lost failed (end_behind told (record e { stack = drop 1 e.stack })) (behind-answers told failed (record e { stack = drop 1 e.stack }) (popped-answers failed e k))
+      following-answers lost failed (end_after told (record e { stack = drop 1 e.stack })) (following-answers told failed (record e { stack = drop 1 e.stack }) (popped-answers failed e k))
   first-answers {e} failed (parts.resumes wait row on_top found) new k = popped-answers failed e k
 
   later-answers : {p q : Phase} {e f : End} {ws : List What} {ps : List Packet} (failed : List ℤ) → LaterPart p e ws ps f q → HasAnswers sent own failed e → HasAnswers sent own failed f
@@ -255,7 +255,7 @@ module _ (schema : Schema) (sent own : List Note) where
       by (Wait head None) o = o
       by (Wait head (Some a)) o = o
 
-  -- what is said of a sync request's reply
+  -- the content of a sync request's reply
   said-answer : (m : Message) (a : Answer) (row : MessageRow) → m.body ≡ body_of a → message_of schema m.number ≡ Some row → is_sync_row row ≡ true → In (body_note schema m m.body) sent → In (says m.seq (answer_content a)) sent
   said-answer m a row body found sync i = subst (λ (n : Note). In n sent) (ap (body_note schema m) body ∙ by a) i
     where
@@ -278,7 +278,7 @@ module _ (schema : Schema) (sent own : List Note) where
 
   delivery-answers : {packet : Packet} {q : Phase} {e f : End} {ws : List What} {ps : List Packet} (place : ℕ) (h : EndReading) → DeliveryPart schema packet e ws ps f q → RepliesFit schema packet e h → PacketIsSent schema sent packet → HasAnswers sent own h.failed e → HasAnswers sent own (after_whats schema place ws h).failed f
   delivery-answers {e} {f = g} {ws} place h (parts.gets_request m row vs body found none) fit new k = later-failed place ws h g (counted e h.failed row m k)
-  delivery-answers {e} {f = g} {ws} place h (parts.replaces m row vs old sync level replies body found rep is) fit new k = later-failed place ws h g (behind-answers replies h.failed (delivery.counted row (delivery.item_of row m) e) (counted e h.failed row m k))
+  delivery-answers {e} {f = g} {ws} place h (parts.replaces m row vs old sync level replies body found rep is) fit new k = later-failed place ws h g (following-answers replies h.failed (delivery.counted row (delivery.item_of row m) e) (counted e h.failed row m k))
   delivery-answers {e} {f = g} {ws} place h (parts.gets_answer m row a body found is) fit new k = later-failed place ws h g (record {
     given = answered-given h.failed m.seq a e.stack (fit.awaits m row a refl body found is) (was_said (said-answer m a row body found is new)) k.given;
     waits = answered-own a e.stack k.waits;
@@ -294,13 +294,13 @@ module _ (schema : Schema) (sent own : List Note) where
 -- Steps
 
 module _ (schema : Schema) (sent : List Note) (side : Side) where
-  told-behind : (place : ℕ) (ws : List What) (h : EndReading) → (more : List Note) × (told_notes side (after_whats schema place ws h).sent ≡ told_notes side h.sent ++ more)
-  told-behind place ws h = let g = grows schema place ws h in (told_notes side g.0, ap (told_notes side) g.1 ∙ map-append (told_note side) h.sent g.0)
+  told-following : (place : ℕ) (ws : List What) (h : EndReading) → (more : List Note) × (told_notes side (after_whats schema place ws h).sent ≡ told_notes side h.sent ++ more)
+  told-following place ws h = let g = grows schema place ws h in (told_notes side g.0, ap (told_notes side) g.1 ∙ map-append (told_note side) h.sent g.0)
 
-  -- what is kept behind more lines
-  answers-behind : (place : ℕ) (ws : List What) (h : EndReading) (e : End) → HasAnswers sent (told_notes side h.sent) h.failed e → HasAnswers sent (told_notes side (after_whats schema place ws h).sent) (after_whats schema place ws h).failed e
-  answers-behind place ws h e k =
-      let g = told-behind place ws h in
+  -- what is kept after more lines
+  answers-following : (place : ℕ) (ws : List What) (h : EndReading) (e : End) → HasAnswers sent (told_notes side h.sent) h.failed e → HasAnswers sent (told_notes side (after_whats schema place ws h).sent) (after_whats schema place ws h).failed e
+  answers-following place ws h e k =
+      let g = told-following place ws h in
       let next : List ℤ = (after_whats schema place ws h).failed in
       subst (λ (own : List Note). HasAnswers sent own next e) (sym g.1)
       (subst (λ (xs : List Note). HasAnswers xs (told_notes side h.sent ++ g.0) next e) (append-nil sent) (answers-grow sent [] (told_notes side h.sent) g.0 h.failed next (λ n x. failed-stays schema place ws h n x) e k))
@@ -309,7 +309,7 @@ module _ (schema : Schema) (sent : List Note) (side : Side) where
   first-own {e} place h (parts.sends row route vs name is) = λ sync. by (is_sync_row row)
     where
       last : (r : told.Request) → In (asks (request_note side r)) (told_notes side (h.sent ++ told.request r ∷ []))
-      last r = subst (In (asks (request_note side r))) (sym (map-append (told_note side) h.sent (told.request r ∷ []))) (in-behind (told_notes side h.sent) here)
+      last r = subst (In (asks (request_note side r))) (sym (map-append (told_note side) h.sent (told.request r ∷ []))) (in-following (told_notes side h.sent) here)
 
       by : (sync : Bool) → IsRequested (told_notes side (after_what schema place (if sync then what.Call (send.request_of e row route vs).seq (send.request_of e row route vs).transaction route row.number vs else what.Send (send.request_of e row route vs).seq route row.number vs) h).sent) (send.request_of e row route vs).seq route row.number
       by true = let r : told.Request = reads.request_after schema (send.request_of e row route vs).seq (send.request_of e row route vs).transaction route row.number vs h in record { request = request_note side r; sent_it = last r; seq_is = refl; route_is = refl; number_is = refl }
@@ -334,16 +334,16 @@ module _ (schema : Schema) (sent : List Note) (side : Side) where
   own-answers {e} {f = g} place h (parts.begun {f} {ws} {vs} part rest ended) k =
       let mid : EndReading = after_whats schema place ws h in
       let own : List Note = told_notes side mid.sent in
-      let a : HasAnswers sent own mid.failed f = first-answers schema sent own mid.failed part (first-own place h part) (answers-behind place ws h e k) in
+      let a : HasAnswers sent own mid.failed f = first-answers schema sent own mid.failed part (first-own place h part) (answers-following place ws h e k) in
       let b : HasAnswers sent own mid.failed g = laters-answers schema sent own mid.failed rest a in
       let at = whats-append schema place ws vs h in
-      subst (λ (x : EndReading). HasAnswers sent (told_notes side x.sent) x.failed g) (sym at.1) (answers-behind at.0 vs mid g b)
+      subst (λ (x : EndReading). HasAnswers sent (told_notes side x.sent) x.failed g) (sym at.1) (answers-following at.0 vs mid g b)
 
 arrival-sent : (schema : Schema) (mine theirs : End) (own others : EndReading) (to_me : List Packet) (packet : Packet) → Arrival schema mine theirs own others to_me packet → PacketIsSent schema (told_notes theirs.side others.sent) packet
 arrival-sent schema mine theirs own others to_me mark a = tt
-arrival-sent schema mine theirs own others to_me (message m) a = subst (λ (l : List Note). In (packet_note schema (message m)) l) (sym a.account.sent.whole) (in-before _ (in-behind a.account.got here))
+arrival-sent schema mine theirs own others to_me (message m) a = subst (λ (l : List Note). In (packet_note schema (message m)) l) (sym a.account.sent.whole) (in-before _ (in-following a.account.got here))
 
--- An end keeps it behind its own step, and behind that of the other.
+-- An end keeps it after its own step, and after a step of the other end.
 pub move-answers : (schema : Schema) (side : Side) (place : ℕ) (mine theirs : End) (own others : EndReading) (to_me to_them : List Packet) (ev : Event) (output : Output) (m : EndMove schema place mine theirs own others to_me to_them ev output) → HasAnswers (told_notes theirs.side others.sent) (told_notes side own.sent) own.failed mine
     → HasAnswers (told_notes theirs.side others.sent) (told_notes side (after_whats schema place m.whats own).sent) (after_whats schema place m.whats own).failed output.end
 move-answers schema side place mine theirs own others to_me to_them ev output m k = by m.parts
@@ -355,7 +355,7 @@ move-answers schema side place mine theirs own others to_me to_them ev output m 
     by (acts same steps) = own-answers schema (told_notes theirs.side others.sent) side place own steps k
     by {ws} {f} (delivers packet first o part) =
         let a : Arrival schema mine theirs own others to_me packet = m.arrives packet first o in
-        let g = told-behind schema (told_notes theirs.side others.sent) side place ws own in
+        let g = told-following schema (told_notes theirs.side others.sent) side place ws own in
         let d : HasAnswers (told_notes theirs.side others.sent) (told_notes side own.sent) (after_whats schema place ws own).failed f = delivery-answers schema (told_notes theirs.side others.sent) (told_notes side own.sent) place own part a.fits (arrival-sent schema mine theirs own others to_me packet a) k in
         subst (λ (x : List Note). HasAnswers (told_notes theirs.side others.sent) x (after_whats schema place ws own).failed f) (sym g.1)
         (subst (λ (xs : List Note). HasAnswers xs (told_notes side own.sent ++ g.0) (after_whats schema place ws own).failed f) (append-nil (told_notes theirs.side others.sent))
@@ -363,6 +363,6 @@ move-answers schema side place mine theirs own others to_me to_them ev output m 
 
 pub other-answers : (schema : Schema) (side : Side) (place : ℕ) (ws : List What) (h others : EndReading) (own : List Note) (theirs : End) → HasAnswers (told_notes side h.sent) own others.failed theirs → HasAnswers (told_notes side (after_whats schema place ws h).sent) own others.failed theirs
 other-answers schema side place ws h others own theirs k =
-    let g = told-behind schema [] side place ws h in
+    let g = told-following schema [] side place ws h in
     subst (λ (xs : List Note). HasAnswers xs own others.failed theirs) (sym g.1)
     (subst (λ (ys : List Note). HasAnswers (told_notes side h.sent ++ g.0) ys others.failed theirs) (append-nil own) (answers-grow (told_notes side h.sent) g.0 own [] others.failed others.failed (λ n x. x) theirs k))

@@ -26,7 +26,7 @@ use Rattle.nesting_laws.specs.Nested.{AreNested}
 use Rattle.nesting_laws.specs.Steps.{DefersCall, HasLevelOf}
 use Rattle.channel_laws.proofs.EveryRun.{nesting_in_every_run}
 
--- an end with a wait on top that has no answer
+-- an end with an unanswered wait on top
 data HasWaitOnTop (side : Side) (w : Head) : List StackEntry → List SyncFrame → Type 0 where
   on_top : {route : ℤ} {number : ℕ} {resolves : Bool} {entries : List StackEntry} {below : List SyncFrame} → w.sync ≡ true → HasLevelOf side (call_of_head route number w) → HasWaitOnTop side w (entry_of (Wait w None) route number resolves ∷ entries) (wait (call_of_head route number w) ∷ below)
 
@@ -47,7 +47,7 @@ answered-top w (Dispatch head ∷ frames) h e = cc
 answered-top w (Wait head None ∷ frames) h e = let k : true ≡ false = h.0 in cc
 answered-top w (Wait head (Some a) ∷ frames) h e = cc
 
--- what a waiting end defers hangs on the wait alone
+-- what a waiting end defers depends on the wait alone
 held-by : (side : Side) (w v : Head) (route at : ℤ) (number of : ℕ) (frames : List StackFrame) → w.sync ≡ true → v.sync ≡ true → HasLevelOf side (call_of_head route number w) → defers side (Wait w None ∷ frames) v ≡ true → DefersCall side (call_of_head route number w) (call_of_head at of v)
 held-by side w v route at number of frames s k l h =
     sym (deferral-same side w route number frames v.level v.transaction s l) ∙ (ap (λ (b : Bool). defers_request side w.level (inner_transaction (Wait w None ∷ frames)) b v.level v.transaction) (sym k) ∙ h)

@@ -1,4 +1,4 @@
--- What an end has sent grows, and what comes from it still does.
+-- What an end has sent grows, and what belongs to it still does.
 use Rattle.std.proofs.Common.{◌≡◌, ◌≢◌, ℕ, zero, suc, ◌+◌, ℤ, pos, Bool, true, false, cond, if◌then◌else◌, int_eq, List, [], ◌∷◌, ◌++◌, find, map, Some, refl, sym, ap, subst, ◌∙◌, append_assoc, arith, inl, inr}
 use Rattle.std.specs.List.{AllByRecursion}
 use Rattle.std.proofs.lemmas.Bool.{cases_Bool}
@@ -40,7 +40,7 @@ pub whats-append : (schema : Schema) (place : ℕ) (ws vs : List What) (h : EndR
 whats-append schema place [] vs h = (place, refl)
 whats-append schema place (w ∷ ws) vs h = whats-append schema (place + 1) ws vs (after_what schema place w h)
 
--- What was delivered is what the lines say
+-- What was delivered is what the lines show
 
 replying-delivered : (n : ℤ) (h : EndReading) → (reads.replying n h).delivered ≡ h.delivered ++ seen.Reply n ∷ []
 replying-delivered n h = by (is_sync_request h n)
@@ -100,15 +100,15 @@ grows schema place (w ∷ ws) h =
     let b = grows schema (place + 1) ws (after_what schema place w h) in
     (a.0 ++ b.0, b.1 ∙ (ap (λ (xs : List SentPacket). xs ++ b.0) a.1 ∙ append_assoc h.sent a.0 b.0))
 
--- What comes from what was sent still does
+-- What belongs to what was sent still does
 
 pub in-before : {A : Type 0} {x : A} {xs : List A} (ys : List A) → In x xs → In x (xs ++ ys)
 in-before ys here = here
 in-before ys (there i) = there (in-before ys i)
 
-pub in-behind : {A : Type 0} {x : A} (ys : List A) {xs : List A} → In x xs → In x (ys ++ xs)
-in-behind [] i = i
-in-behind (y ∷ ys) i = there (in-behind ys i)
+pub in-following : {A : Type 0} {x : A} (ys : List A) {xs : List A} → In x xs → In x (ys ++ xs)
+in-following [] i = i
+in-following (y ∷ ys) i = there (in-following ys i)
 
 module _ (schema : Schema) (theirs more : List Note) where
   abbrev requested-grows : {seq route : ℤ} {number : ℕ} → IsRequested theirs seq route number → IsRequested (theirs ++ more) seq route number

@@ -19,17 +19,18 @@ use Rattle.nesting_core.specs.declared.frame.StackFrame.TheVariants.{Dispatch, W
 use Rattle.nesting_core.specs.Answers.{with_answer}
 use Rattle.pending_queue.specs.declared.item.Item.TheVariants as item
 use Rattle.pending_queue.specs.Compression.{staying}
-use Rattle.pending_queue.specs.Holding.{is_free, without_first}
+use Rattle.pending_queue.specs.DeferralContext.{is_free, without_first}
 use Rattle.history_reading.specs.EndReading.{EndReading}
 use Rattle.history_reading.specs.Reading.{Reading, end_reading_of, other_of}
 use Rattle.channel_model.specs.Answers as answering
 use Rattle.channel_model.specs.Deliveries as delivery
 use Rattle.channel_model.specs.Ends.{End, World, Packet, message, mark, StackEntry, end_of}
 use Rattle.channel_model.specs.Events.{Answering, Event, handled, kept}
-use Rattle.channel_model.specs.Numbers.{other, is_sync_row}
+use Rattle.ipdl_base.specs.Sides.{other}
+use Rattle.channel_model.specs.Numbers.{is_sync_row}
 use Rattle.channel_model.specs.Outputs.{body_of}
 use Rattle.channel_model.specs.Parts as parts
-use Rattle.channel_model.specs.Parts.{FirstPart, LaterPart, LaterParts, OwnParts, DeliveryPart, end_behind, farewell_item, left_end}
+use Rattle.channel_model.specs.Parts.{FirstPart, LaterPart, LaterParts, OwnParts, DeliveryPart, end_after, farewell_item, left_end}
 use Rattle.channel_model.specs.Phases.{Phase}
 use Rattle.channel_model.specs.Sends as send
 use Rattle.channel_model.specs.States.{is_farewell, is_goodbye}
@@ -79,12 +80,12 @@ module _ (schema : Schema) (sent : List Note) where
       by (Wait head None) o = o
       by (Wait head (Some a)) o = o
 
-  behind-heads : (b : Bool) (e : End) → HasHeads schema sent e → HasHeads schema sent (end_behind b e)
-  behind-heads true e k = record { entries = k.entries; arrived = k.arrived }
-  behind-heads false e k = k
+  following-heads : (b : Bool) (e : End) → HasHeads schema sent e → HasHeads schema sent (end_after b e)
+  following-heads true e k = record { entries = k.entries; arrived = k.arrived }
+  following-heads false e k = k
 
   left-heads : (e : End) → HasHeads schema sent e → HasHeads schema sent (left_end e)
-  left-heads e k = record { entries = k.entries; arrived = all-sublist (ItemHead schema) (without_first (is_free (take.holding_of e)) e.arrived) e.arrived (without_first-sublist (is_free (take.holding_of e)) e.arrived) k.arrived }
+  left-heads e k = record { entries = k.entries; arrived = all-sublist (ItemHead schema) (without_first (is_free (take.deferral_context_of e)) e.arrived) e.arrived (without_first-sublist (is_free (take.deferral_context_of e)) e.arrived) k.arrived }
 
   popped-heads : (e : End) → HasHeads schema sent e → HasHeads schema sent (record e { stack = drop 1 e.stack })
   popped-heads e k = record { entries = all-drop (EntryHead schema sent) e.stack k.entries; arrived = k.arrived }
@@ -115,13 +116,13 @@ module _ (schema : Schema) (sent : List Note) where
         entries = ((record { row = row; found = found; sync_is = refl; level_is = refl }, record { request = message_note schema m vs; sent_it = subst (λ (b : Body). In (body_note schema m b) sent) body i; seq_is = refl; transaction_is = refl; number_is = refl }), l.entries);
         arrived = l.arrived;
       }
-  first-heads {e} (parts.drops m sync level row vs id replies next body found gone is) noted k = behind-heads replies (left_end e) (left-heads e k)
+  first-heads {e} (parts.drops m sync level row vs id replies next body found gone is) noted k = following-heads replies (left_end e) (left-heads e k)
   first-heads {e} (parts.drops_unknown m sync level vs next body none) noted k = left-heads e k
   first-heads {e} (parts.takes_reply m sync level a next body late) noted k = left-heads e k
   first-heads {e} (parts.settles m sync level row a next body found is) noted k = let l : HasHeads schema sent (left_end e) = left-heads e k in record { entries = l.entries; arrived = l.arrived }
   first-heads (parts.shuts last next is) noted k = record { entries = k.entries; arrived = tt }
   first-heads {e} (parts.returns entry row vs told lost on_top t l) noted k =
-      behind-heads lost (end_behind told (record e { stack = drop 1 e.stack })) (behind-heads told (record e { stack = drop 1 e.stack }) (popped-heads e k))
+      following-heads lost (end_after told (record e { stack = drop 1 e.stack })) (following-heads told (record e { stack = drop 1 e.stack }) (popped-heads e k))
   first-heads {e} (parts.resumes wait row on_top found) noted k = popped-heads e k
 
   later-heads : {p q : Phase} {e f : End} {ws : List What} {ps : List Packet} → LaterPart p e ws ps f q → HasHeads schema sent e → HasHeads schema sent f
@@ -164,7 +165,7 @@ module _ (schema : Schema) (sent : List Note) where
 
   delivery-heads : {packet : Packet} {q : Phase} {e f : End} {ws : List What} {ps : List Packet} → DeliveryPart schema packet e ws ps f q → HasHeads schema sent e → HasHeads schema sent f
   delivery-heads {e} (parts.gets_request m row vs body found none) k = counted e row m vs body found k
-  delivery-heads {e} (parts.replaces m row vs old sync level replies body found rep is) k = behind-heads replies (delivery.counted row (delivery.item_of row m) e) (counted e row m vs body found k)
+  delivery-heads {e} (parts.replaces m row vs old sync level replies body found rep is) k = following-heads replies (delivery.counted row (delivery.item_of row m) e) (counted e row m vs body found k)
   delivery-heads {e} (parts.gets_answer m row a body found is) k = record { entries = answered-heads a e.stack k.entries; arrived = k.arrived }
   delivery-heads {e} (parts.gets_reply m row a body found is) k = record { entries = k.entries; arrived = all-append (ItemHead schema) e.arrived (delivery.item_of row m ∷ []) k.arrived (reply-head m row a body is, tt) }
   delivery-heads {e} (parts.drains packet is) k = record { entries = failed-heads e.stack k.entries; arrived = all-append (ItemHead schema) e.arrived (farewell_item packet ∷ []) k.arrived (farewell-head packet is, tt) }
@@ -186,12 +187,12 @@ module _ (schema : Schema) (sent more : List Note) where
 
 -- Moves
 
--- an end keeps it with what the lines of the other say, which is on this side
+-- an end keeps this with the lines of the other end, which is on this side
 abbrev pub KeepsHeads : Schema → Side → EndReading → End → EndReading → Type 0
 KeepsHeads schema side others e own = HasHeads schema (told_notes side others.sent) e
 
-heads-behind : (schema : Schema) (side : Side) (place : ℕ) (ws : List What) (h : EndReading) (e : End) → HasHeads schema (told_notes side h.sent) e → HasHeads schema (told_notes side (after_whats schema place ws h).sent) e
-heads-behind schema side place ws h e k =
+heads-following : (schema : Schema) (side : Side) (place : ℕ) (ws : List What) (h : EndReading) (e : End) → HasHeads schema (told_notes side h.sent) e → HasHeads schema (told_notes side (after_whats schema place ws h).sent) e
+heads-following schema side place ws h e k =
     let g = grows schema place ws h in
     subst (λ (l : List Note). HasHeads schema l e) (sym (ap (told_notes side) g.1 ∙ map-append (told_note side) h.sent g.0)) (heads-grow schema (told_notes side h.sent) (told_notes side g.0) e k)
 
@@ -204,8 +205,8 @@ module _ (schema : Schema) (sound : IsSound schema) where
       record {
         kept = across-keep schema (KeepsHeads schema) side move.event w r output m.nested m.ends
             (parts-heads schema (told_notes (other side) (other_of side r).sent) m.ends.parts noted.0.arrived both.0)
-            (heads-behind schema side r.lines m.ends.whats (end_reading_of side r) (end_of (other side) w) both.1);
-        passes = λ behind. all-pass schema r output.lines behind;
+            (heads-following schema side r.lines m.ends.whats (end_reading_of side r) (end_of (other side) w) both.1);
+        passes = λ following. all-pass schema r output.lines following;
       }
 
   pub heads-reached : (w : World) (r : Reading) → IsReached schema w r → AcrossEnds schema (KeepsHeads schema) w r

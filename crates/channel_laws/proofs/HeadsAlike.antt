@@ -1,4 +1,4 @@
--- What lines tell of heads and deferral is what ends say of them.
+-- What lines show of heads and deferral is what ends have.
 use Rattle.std.proofs.Common.{◌≡◌, ℕ, ℤ, Bool, true, false, cond, if◌then◌else◌, List, [], ◌∷◌, find, map, Option, Some, None, option_map, option_and_then, refl, sym, ap, ◌∙◌}
 use Rattle.std.specs.List.{AllByRecursion}
 use Rattle.std.specs.Option.{option_map_or}
@@ -31,7 +31,7 @@ use Rattle.channel_laws.proofs.Outlines.{cons-head, cons-tail}
 abbrev frames_in : List StackEntry → List StackFrame
 frames_in es = map (λ (x : StackEntry). x.frame) es
 
--- the transaction and the message of a frame that waits, as lines tell them
+-- the transaction and the message of a frame that waits, as lines show them
 abbrev frame_transaction : CallFrame → ℤ → ℤ
 frame_transaction (frame.Dispatch d) none = none
 frame_transaction (frame.Unanswered c) none = c.transaction
@@ -42,7 +42,7 @@ frame_number (frame.Dispatch d) = d.number
 frame_number (frame.Unanswered c) = c.number
 frame_number (frame.Answered c) = c.number
 
--- the head on top of a stack, where it is that of a wait without an answer
+-- the head on top of a stack, if it is that of an unanswered wait
 abbrev pub unanswered_head : StackTop → Option Head
 unanswered_head top.Empty = None
 unanswered_head (top.Dispatch head) = None

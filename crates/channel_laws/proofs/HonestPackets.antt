@@ -17,7 +17,8 @@ use Rattle.history_reading.specs.Rows.{wants_number, wants_row}
 use Rattle.history_reading.specs.SentPacket as told
 use Rattle.history_reading.specs.SentPacket.{requests_of}
 use Rattle.channel_model.specs.Ends.{End, Packet, message, mark}
-use Rattle.channel_model.specs.Numbers.{other, sends, is_constructor, is_sync_row}
+use Rattle.ipdl_base.specs.Sides.{other, sends}
+use Rattle.channel_model.specs.Numbers.{is_constructor, is_sync_row}
 use Rattle.channel_model.specs.Refusals.{DeliveryRefusal, wrong_direction, wrong_number, wrong_new_id, wrong_actor, stray, expected_seq, expected_id, is_replied_to, is_waited_for, is_promised, actors_of, actor_refusal, request_refusal, is_expected_reply, reply_refusal, body_refusal, packet_refusal}
 use Rattle.channel_model.specs.ValueActors.{ActorValue}
 use Rattle.channel_laws.specs.Laws.{IsReply}
@@ -28,7 +29,7 @@ use Rattle.channel_laws.specs.Promised.{Promised, promised_by, promised_in, prom
 use Rattle.channel_laws.specs.Protocols.{Protocols, HasProtocols, PacketHasProtocols}
 use Rattle.channel_laws.specs.RequestOrder.{IsNextRequest}
 use Rattle.channel_laws.specs.SyncCalls.{is_sync_number}
-use Rattle.channel_laws.proofs.Growing.{IsSentAs, sent-as, in-all, in-behind}
+use Rattle.channel_laws.proofs.Growing.{IsSentAs, sent-as, in-all, in-following}
 use Rattle.channel_laws.proofs.ReplyRows.{reply_row-is}
 use Rattle.channel_laws.proofs.Rows.{request-message}
 use Rattle.channel_laws.proofs.StandsFor.{none-otherwise}
@@ -57,7 +58,7 @@ promise-listed false p rest e = cc
 
 in-promised : {r : told.Request} {rs : List told.Request} → In r rs → r.wants ≡ true → In (record { seq = r.seq; route = r.route; number = r.number }) (promised_in rs)
 in-promised {r} (here {xs}) e = promise-listed r.wants (record { seq = r.seq; route = r.route; number = r.number }) (promised_in xs) e
-in-promised (there {y} i) e = in-behind (promised_by y) (in-promised i e)
+in-promised (there {y} i) e = in-following (promised_by y) (in-promised i e)
 
 replied-is : (m : Message) (seq : ℤ) (number : ℕ) (route : ℤ) → seq ≡ m.seq → m.number ≡ number + 1 → route ≡ m.route → is_replied_to m seq number route ≡ true
 replied-is m seq number route a b c =
@@ -90,7 +91,7 @@ expected true waited promised h k = h refl
 expected false waited promised h k = k refl
 
 module _ (schema : Schema) (sound : IsSound schema) where
-  -- the reply to an async request is to one with a promise
+  -- the reply to an async request is to a request with a promise
   pub reply-promised : (e : End) (own : EndReading) (m : Message) (row : MessageRow) → RepliesTo schema (told_notes e.side own.sent) m → HaveWantsOfRows schema own.sent → PromisesAreRead e own → message_of schema m.number ≡ Some row → is_sync_row row ≡ false → is_promised e m ≡ true
   reply-promised e own m row r wants h found async =
       let a : RequestNote = r.origin.requested.request in
@@ -105,7 +106,7 @@ module _ (schema : Schema) (sound : IsSound schema) where
       let any : list_any test (promised_in (requests_of own.sent)) ≡ true = in-any test (in-promised s.there wanted) (replied-is m s.request.seq s.request.number s.request.route seq (r.is ∙ ap (λ (n : ℕ). n + 1) (sym number)) route) in
       sym (any-map promised_entry test e.promises) ∙ (ap (list_any test) h.promises_are ∙ any)
 
-  -- What an end is told of a message that comes to it: a request is the next of the other end, a sync reply is awaited.
+  -- What is known of a packet that comes to an end: a request is the next of the other end, a sync reply is awaited.
   pub record Comes (made : Protocols) (e : End) (own : EndReading) (packet : Packet) : Type 0 where
     pub keeps : HasProtocols schema made e
     pub protocols : PacketHasProtocols schema made packet
@@ -115,7 +116,7 @@ module _ (schema : Schema) (sound : IsSound schema) where
     pub wants : HaveWantsOfRows schema own.sent
     pub promises : PromisesAreRead e own
 
-  -- so it does not refuse that
+  -- so the end does not refuse it
   pub comes-accepted : (made : Protocols) (e : End) (own : EndReading) (packet : Packet) → Comes made e own packet → packet_refusal schema e packet ≡ None
   comes-accepted made e own mark h = refl
   comes-accepted made e own (message m) h = at (message_of schema m.number) refl

@@ -6,7 +6,7 @@ use Rattle.ipdl_base.specs.declared.kinds.Side.TheVariants.{Parent, Child}
 use Rattle.ipdl_base.specs.declared.schema.Schema.{Schema}
 use Rattle.history_reading.specs.Reading.{Reading, end_reading_of, other_of, read}
 use Rattle.channel_model.specs.Ends.{End, World, Packet, end_of, link_to}
-use Rattle.channel_model.specs.Numbers.{other}
+use Rattle.ipdl_base.specs.Sides.{other}
 use Rattle.channel_model.specs.Outputs.{is_open}
 use Rattle.channel_model.specs.Runs.{history_of}
 use Rattle.channel_model.specs.Steps.{first_packet}

@@ -8,7 +8,7 @@ use Rattle.ipdl_base.specs.declared.message.Message.{Message}
 use Rattle.ipdl_base.specs.declared.schema.Schema.{Schema}
 use Rattle.channel_model.specs.Ends.{Packet, message, mark}
 use Rattle.channel_model.specs.States.{is_goodbye}
-use Rattle.channel_model.proofs.Known.{all-before, all-behind}
+use Rattle.channel_model.proofs.Known.{all-before, all-following}
 use Rattle.channel_laws.specs.NestedWorlds.{is_last_packet, HasNoLastPacket, EndsInLastPacket, last_alone, last_later}
 use Rattle.channel_laws.specs.SyncCalls.{is_sync_number, level_of, sync_body, sync_packet, sync_packets}
 use Rattle.nesting_laws.specs.Calls.{IsNoFarewell}
@@ -26,16 +26,16 @@ packet-goes_on schema mark h = absurd h.0
 pub link-goes_on : (schema : Schema) (link : List Packet) → AllByRecursion IsNoFarewell (sync_packets schema link) → HasNoLastPacket link
 link-goes_on schema [] h = tt
 link-goes_on schema (packet ∷ link) h =
-    (packet-goes_on schema packet (all-before IsNoFarewell (sync_packet schema packet) (sync_packets schema link) h), link-goes_on schema link (all-behind IsNoFarewell (sync_packet schema packet) (sync_packets schema link) h))
+    (packet-goes_on schema packet (all-before IsNoFarewell (sync_packet schema packet) (sync_packets schema link) h), link-goes_on schema link (all-following IsNoFarewell (sync_packet schema packet) (sync_packets schema link) h))
 
 pub empty-goes_on : (schema : Schema) (link : List Packet) → sync_packets schema link ≡ [] → HasNoLastPacket link
 empty-goes_on schema link e = link-goes_on schema link (subst (AllByRecursion IsNoFarewell) (sym e) tt)
 
-pub ends-behind : (front back : List Packet) → HasNoLastPacket front → EndsInLastPacket back → EndsInLastPacket (front ++ back)
-ends-behind [] back h e = e
-ends-behind (p ∷ front) back h e = last_later h.0 (ends-behind front back h.1 e)
+pub ends-following : (front back : List Packet) → HasNoLastPacket front → EndsInLastPacket back → EndsInLastPacket (front ++ back)
+ends-following [] back h e = e
+ends-following (p ∷ front) back h e = last_later h.0 (ends-following front back h.1 e)
 
--- a link that ends, behind a delivery that leaves something
+-- a link that ends in a last packet, after a delivery that leaves something
 pub ends-left : (link : List Packet) → (drop 1 link ≡ [] → ⊥) → EndsInLastPacket link → EndsInLastPacket (drop 1 link)
 ends-left [] h e = elim e [ ]
 ends-left (p ∷ rest) h (last_alone l) = absurd (h refl)

@@ -7,7 +7,7 @@ use Rattle.std.proofs.lemmas.Bool.{lt-ltb}
 use Rattle.std.proofs.lemmas.List.{map-append}
 use Rattle.std.proofs.lemmas.Option.{same_Some}
 use Rattle.pending_queue.specs.declared.item.Item.{Item}
-use Rattle.pending_queue.specs.Holding.{without_first}
+use Rattle.pending_queue.specs.DeferralContext.{without_first}
 use Rattle.history_reading.specs.declared.parts.PacketKind.{PacketKind}
 use Rattle.history_reading.specs.declared.parts.PacketKind.TheVariants as kind
 use Rattle.history_reading.specs.Numbers.{same_packet}
@@ -15,7 +15,7 @@ use Rattle.history_reading.specs.Reading as reads
 use Rattle.channel_laws.specs.Arrivals.{item_kind}
 use Rattle.channel_laws.proofs.Counting.{int-same}
 
--- An item, with those before and behind it, and what is left without it.
+-- An item, with the items before and after it, and the list without it.
 pub record TakenFrom (items rest : List Item) (x : Item) : Type 0 where
   pub front : List Item
   pub back : List Item
@@ -23,10 +23,10 @@ pub record TakenFrom (items rest : List Item) (x : Item) : Type 0 where
   pub left : rest ≡ front ++ back
 
 -- one more item before
-abbrev pub taken-behind : (items rest : List Item) (x y : Item) → TakenFrom items rest x → TakenFrom (y ∷ items) (y ∷ rest) x
-taken-behind items rest x y t = record { front = y ∷ t.front; back = t.back; whole = ap (λ (zs : List Item). y ∷ zs) t.whole; left = ap (λ (zs : List Item). y ∷ zs) t.left }
+abbrev pub taken-following : (items rest : List Item) (x y : Item) → TakenFrom items rest x → TakenFrom (y ∷ items) (y ∷ rest) x
+taken-following items rest x y t = record { front = y ∷ t.front; back = t.back; whole = ap (λ (zs : List Item). y ∷ zs) t.whole; left = ap (λ (zs : List Item). y ∷ zs) t.left }
 
--- more items behind
+-- more items after
 abbrev pub taken-before : (items rest more : List Item) (x : Item) → TakenFrom items rest x → TakenFrom (items ++ more) (rest ++ more) x
 taken-before items rest more x t = record {
   front = t.front;
@@ -35,7 +35,7 @@ taken-before items rest more x t = record {
   left = ap (λ (zs : List Item). zs ++ more) t.left ∙ append_assoc t.front t.back more;
 }
 
--- The first that passes is taken, and none before it passes.
+-- The first item that passes is taken, and none before it passes.
 pub record FirstTaken (test : Item → Bool) (items : List Item) (x : Item) : Type 0 where
   pub taken : TakenFrom items (without_first test items) x
   pub passes : test x ≡ true
@@ -46,7 +46,7 @@ first-case : (test : Item → Bool) (b : Bool) (y : Item) (ys : List Item) (x : 
 first-case test true y ys x is e rec =
     let same : y ≡ x = same_Some y x e in
     (record { front = []; back = ys; whole = ap (λ (z : Item). z ∷ ys) same; left = refl }, ap test (sym same) ∙ is, tt)
-first-case test false y ys x is e rec = let r : FirstTaken test ys x = rec e in (taken-behind ys (without_first test ys) x y r.taken, r.passes, (is, r.others))
+first-case test false y ys x is e rec = let r : FirstTaken test ys x = rec e in (taken-following ys (without_first test ys) x y r.taken, r.passes, (is, r.others))
 
 pub first-taken : (test : Item → Bool) (items : List Item) (x : Item) → find test items ≡ Some x → FirstTaken test items x
 first-taken test [] x e = cc
@@ -89,7 +89,7 @@ leaves-at p front back h =
 abbrev pub ShowOthers : Item → List Item → Type 0
 ShowOthers x items = AllByRecursion (λ q. same_packet q (item_kind x) ≡ false) (map item_kind items)
 
--- so the packet of the item that is taken leaves the reading, where none before it shows the same
+-- the packet of the item that is taken leaves the reading, if none before it shows the same
 pub leaves-alike : (items rest : List Item) (x : Item) (t : TakenFrom items rest x) → ShowOthers x t.front → reads.without_first (item_kind x) (map item_kind items) ≡ map item_kind rest
 unfolding reads.without_first
 leaves-alike items rest x t h =

@@ -57,7 +57,7 @@ pub mod OrderRuns
 pub mod ActorFalls
 pub mod ActorsKept
 pub mod Answering
-pub mod Holding
+pub mod DeferralContext
 pub mod FallenRuns
 pub mod GivenAnswers
 pub mod WaitLines

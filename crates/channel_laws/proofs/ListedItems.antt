@@ -1,4 +1,4 @@
--- What is so of all in a list is so of what is left of it, and of the item that a new one replaces.
+-- A property of all items of a list is one of those that are left, and of the item that a new one replaces.
 use Rattle.std.proofs.Common.{◌≡◌, ◌-◌, Bool, true, false, cond, if◌then◌else◌, List, [], ◌∷◌, length, map, Option, Some, None, option_and_then, refl, sym, ap, subst, ◌∙◌}
 use Rattle.std.specs.List.{AllByRecursion, list_any}
 use Rattle.std.proofs.lemmas.Option.{same_Some}
@@ -16,7 +16,7 @@ pub all-messages : (P : Packet → Type 0) (Q : Message → Type 0) (ms : List M
 all-messages P Q [] h k = tt
 all-messages P Q (m ∷ ms) h k = (h m k.0, all-messages P Q ms h k.1)
 
--- the item that a new one replaces is one of those that have arrived, and like it
+-- the item that a new one replaces is one of those that have arrived, and is like the new one
 
 latest-is : (P : Item → Type 0) (test : Item → Bool) (xs : List Item) (x : Item) → AllByRecursion P xs → latest test xs ≡ Some x → P x × (test x ≡ true)
 latest-is P test [] x h e = cc

@@ -36,7 +36,8 @@ use Rattle.channel_model.specs.Answers as answering
 use Rattle.channel_model.specs.Deliveries as delivery
 use Rattle.channel_model.specs.Ends.{End, Packet, message, mark, PromiseEntry}
 use Rattle.channel_model.specs.Falls as fall
-use Rattle.channel_model.specs.Numbers.{other, protocol_of, is_sync_row, top_id}
+use Rattle.ipdl_base.specs.Sides.{other, top_id}
+use Rattle.channel_model.specs.Numbers.{protocol_of, is_sync_row}
 use Rattle.channel_model.specs.Actors.{IsTaken}
 use Rattle.channel_model.specs.Outputs.{is_open, request_answered, resolver_answered}
 use Rattle.channel_model.specs.Parts as part
@@ -81,7 +82,7 @@ module _ (schema : Schema) (sound : IsSound schema) (side : Side) (others : EndR
   abbrev pub IsLivingLine : EndReading → What → Type 0
   IsLivingLine own said = living_line schema side own others said ≡ true
 
-  -- Lines of which the law says nothing
+  -- Lines for which the law has no condition
 
   free-line : (w : What) → SaysNoActor w → (h : EndReading) → IsLivingLine h w
   free-line w (replaced n) h = refl

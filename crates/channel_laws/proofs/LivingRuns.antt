@@ -18,7 +18,7 @@ use Rattle.history_reading.specs.Living.{living_line}
 use Rattle.history_reading.specs.Reading.{Reading, after_at, end_reading_of, other_of}
 use Rattle.channel_model.specs.Ends.{End, World, Packet, end_of, link_to}
 use Rattle.channel_model.specs.Events.{Event}
-use Rattle.channel_model.specs.Numbers.{other}
+use Rattle.ipdl_base.specs.Sides.{other}
 use Rattle.channel_model.specs.Outputs.{line_at}
 use Rattle.channel_model.specs.Parts as part
 use Rattle.channel_model.specs.Parts.{LaterParts, OwnParts, DeliveryPart}
@@ -36,7 +36,7 @@ use Rattle.channel_laws.specs.Tested.{after_whats, EndLinesPass, LinesPass}
 use Rattle.channel_laws.specs.TwoEnds.{TwoEnds}
 use Rattle.channel_laws.proofs.ActorsKept.{first-kept, later-kept}
 use Rattle.channel_laws.proofs.EveryRun.{end-side}
-use Rattle.channel_laws.proofs.Holding.{holds-in-runs, law_at}
+use Rattle.channel_laws.proofs.DeferralContext.{holds-in-runs, law_at}
 use Rattle.channel_laws.proofs.LivingParts.{IsLivingLine, first-lives, later-lives, delivery-lives}
 use Rattle.channel_laws.proofs.MadeByEvents.{FreshIsMade, first-made, later-made}
 use Rattle.channel_laws.proofs.Moves.{StepParts, acts, delivers}
@@ -48,16 +48,16 @@ use Rattle.channel_laws.proofs.Runs.{at-ends, across-ends, EveryMoveKeeps, every
 use Rattle.channel_laws.proofs.Testing.{tested-append}
 use Rattle.channel_laws.proofs.TwoEnds.{EndKeeps, keeps-of, first-keeps}
 
--- lines of a side pass a test that is told the side
-pass-side : (schema : Schema) (side : Side) (ws : List What) (r : Reading) (behind : List Line) → EndLinesPass schema (λ own w. living_line schema side own (other_of side r) w ≡ true) r.lines ws (end_reading_of side r) → LinesPass schema (law_at law.Living schema) r (map (line_at side) ws) behind
+-- lines of a side pass a test that depends on the side
+pass-side : (schema : Schema) (side : Side) (ws : List What) (r : Reading) (following : List Line) → EndLinesPass schema (λ own w. living_line schema side own (other_of side r) w ≡ true) r.lines ws (end_reading_of side r) → LinesPass schema (law_at law.Living schema) r (map (line_at side) ws) following
 unfolding moment_test
-pass-side schema side [] r behind t = tt
-pass-side schema Parent (w ∷ ws) r behind t = (by (is_effect w) t.0, pass-side schema Parent ws (after_at schema Parent w r) behind t.1)
+pass-side schema side [] r following t = tt
+pass-side schema Parent (w ∷ ws) r following t = (by (is_effect w) t.0, pass-side schema Parent ws (after_at schema Parent w r) following t.1)
   where
     by : (b : Bool) → living_line schema Parent r.parent r.child w ≡ true → (if b then true else true) && living_line schema Parent r.parent r.child w ≡ true
     by true e = e
     by false e = e
-pass-side schema Child (w ∷ ws) r behind t = (by (is_effect w) t.0, pass-side schema Child ws (after_at schema Child w r) behind t.1)
+pass-side schema Child (w ∷ ws) r following t = (by (is_effect w) t.0, pass-side schema Child ws (after_at schema Child w r) following t.1)
   where
     by : (b : Bool) → living_line schema Child r.child r.parent w ≡ true → (if b then true else true) && living_line schema Child r.child r.parent w ≡ true
     by true e = e
@@ -110,8 +110,8 @@ module _ (schema : Schema) (sound : IsSound schema) where
       let lines : output.lines ≡ map (line_at side) m.ends.whats = side-lines (end_of side w) side output.lines m.ends.whats (end-side schema side w m.nested) m.ends.lines in
       record {
         kept = tt;
-        passes = λ behind. subst (λ (ls : List Line). LinesPass schema (law_at law.Living schema) r ls behind) (sym lines)
-            (pass-side schema side m.ends.whats r behind
+        passes = λ following. subst (λ (ls : List Line). LinesPass schema (law_at law.Living schema) r ls following) (sym lines)
+            (pass-side schema side m.ends.whats r following
             (step-lives schema sound side (other_of side r) r.lines (end_of side w) (end_of (other side) w) (end_reading_of side r) (link_to side w) (link_to (other side) w) protocols.made m.ends.parts (end-side schema side w m.nested) (end-side schema (other side) w m.nested) reads.0 (side-keeps schema m.reached.top side w protocols) m.ends.before noted.0.arrived));
       }
 

@@ -1,4 +1,4 @@
--- The id that an event may still build is the one that its request makes, as lines tell of that.
+-- The id that an event may still build is the one that its request makes, as lines show it.
 use Rattle.std.proofs.Common.{◌≡◌, ℕ, ℤ, pos, Bool, true, false, ◌&&◌, cond, if◌then◌else◌, int_eq, List, [], ◌∷◌, ◌++◌, find, map, Option, Some, None, refl, sym, ap, subst, ◌∙◌}
 use Rattle.std.specs.Option.{option_map_or}
 use Rattle.ipdl_base.specs.declared.kinds.Side.{Side}
@@ -10,14 +10,15 @@ use Rattle.ipdl_base.specs.declared.message.Message.{Message}
 use Rattle.ipdl_base.specs.declared.schema.Schema.{Schema}
 use Rattle.ipdl_base.specs.declared.value.Values.{Values}
 use Rattle.pending_queue.specs.declared.item.Item.TheVariants as item
-use Rattle.pending_queue.specs.Holding.{is_free}
+use Rattle.pending_queue.specs.DeferralContext.{is_free}
 use Rattle.nesting_core.specs.Top.{top_of}
 use Rattle.history_reading.specs.EndReading.{EndReading, own_request}
-use Rattle.history_reading.specs.Living.{made_id, other_side, event_makes, request_makes}
+use Rattle.ipdl_base.specs.Sides.{other}
+use Rattle.history_reading.specs.Living.{made_id, event_makes}
 use Rattle.history_reading.specs.SentPacket as told
 use Rattle.history_reading.specs.SentPacket.{SentPacket, requests_of, request_of}
 use Rattle.channel_model.specs.Ends.{End, Packet, message}
-use Rattle.channel_model.specs.Numbers.{other, is_constructor}
+use Rattle.channel_model.specs.Numbers.{is_constructor}
 use Rattle.channel_model.specs.Outputs.{is_open}
 use Rattle.channel_model.specs.Parts
 use Rattle.channel_model.specs.Parts.{FirstPart, LaterPart, outbox_after, request_packets, sent_end}
@@ -30,7 +31,7 @@ use Rattle.channel_laws.specs.NotedArrivals.{ItemIsNoted, ArrivalsAreNoted}
 use Rattle.channel_laws.specs.Notes.{RequestNote, Note, asks, body_note, packet_note, message_note, request_note, told_notes, notes, In, here, there}
 use Rattle.channel_laws.specs.SentAccounts.{EndAccount}
 use Rattle.channel_laws.specs.Tested.{after_whats}
-use Rattle.channel_laws.proofs.Growing.{grows, in-before, in-behind, own-request}
+use Rattle.channel_laws.proofs.Growing.{grows, in-before, in-following, own-request}
 use Rattle.channel_laws.proofs.SentAccounts.{requests-append}
 use Rattle.channel_laws.proofs.Track.{all-found}
 
@@ -58,10 +59,6 @@ pub record RequestMakes (side : Side) (sender : EndReading) (seq : ℤ) (id : �
 asked-makes : (side : Side) (sender : EndReading) (a : RequestNote) → IsAsked side sender a → RequestMakes side sender a.seq a.made
 asked-makes side sender a h = record { request = h.request; found = h.found; makes = made-id side h.request ∙ ap (λ (x : RequestNote). x.made) h.is }
 
-pub other-same : (side : Side) → other_side side ≡ other side
-other-same Parent = refl
-other-same Child = refl
-
 module _ (schema : Schema) (side : Side) (others : EndReading) where
   -- the request of an event makes this id
   abbrev pub EventMakes : EndReading → EventStart → ℤ → Type 0
@@ -77,7 +74,7 @@ module _ (schema : Schema) (side : Side) (others : EndReading) where
 
   pub event-makes : (own : EndReading) (start : EventStart) (id : ℤ) → EventMakes own start id → event_makes side own others (shown_event start) ≡ id
   event-makes own (phase.sends seq route) id h = ap (λ (o : Option told.Request). option_map_or (made_id side) o (pos 0)) h.found ∙ h.makes
-  event-makes own (phase.takes seq route) id h = ap (λ (s : Side). request_makes s others seq) (other-same side) ∙ (ap (λ (o : Option told.Request). option_map_or (made_id (other side)) o (pos 0)) h.found ∙ h.makes)
+  event-makes own (phase.takes seq route) id h = ap (λ (o : Option told.Request). option_map_or (made_id (other side)) o (pos 0)) h.found ∙ h.makes
   event-makes own phase.ends id h = absurd h
   event-makes own phase.closes id h = absurd h
   event-makes own phase.other id h = absurd h
@@ -93,8 +90,8 @@ module _ (schema : Schema) (side : Side) (others : EndReading) where
   in-packets m (x ∷ ms) = there (in-packets m ms)
 
   sent-noted : (lazy : Bool) (e : End) (m : Message) (left lost : List Note) → In (packet_note schema (message m)) ((left ++ notes schema (request_packets lazy e m)) ++ (notes schema (map message (outbox_after lazy m e.outbox)) ++ lost))
-  sent-noted true e m left lost = in-behind (left ++ []) (in-before lost (in-last m e.outbox))
-  sent-noted false e m left lost = in-before lost (in-behind left (in-packets m e.outbox))
+  sent-noted true e m left lost = in-following (left ++ []) (in-before lost (in-last m e.outbox))
+  sent-noted false e m left lost = in-before lost (in-following left (in-packets m e.outbox))
 
   fresh-only : (b : Bool) (made id : ℤ) (rest : List ℤ) → (if b then made ∷ [] else []) ≡ id ∷ rest → made ≡ id
   fresh-only true made id rest e = cc
@@ -104,14 +101,14 @@ module _ (schema : Schema) (side : Side) (others : EndReading) where
   taken-noted e m sync level vs noted next body = subst (λ (b : Body). In (body_note schema m b) (told_notes (other side) others.sent)) body (by (take.takes_in_state e.state && take.takes_under (top_of (send.frames_of e))) next)
     where
       by : (b : Bool) → cond b (take.first_free e) None ≡ Some (item.Message m sync level) → ItemIsNoted schema (told_notes (other side) others.sent) (item.Message m sync level)
-      by true is = all-found (ItemIsNoted schema (told_notes (other side) others.sent)) (is_free (take.holding_of e)) e.arrived (item.Message m sync level) noted is
+      by true is = all-found (ItemIsNoted schema (told_notes (other side) others.sent)) (is_free (take.deferral_context_of e)) e.arrived (item.Message m sync level) noted is
       by false is = cc
 
-  -- the request that is taken, as the other end's lines tell of it
+  -- the request that is taken, as the other end's lines show it
   pub taken-asked : (e theirs : End) (left : List Note) (m : Message) (sync : Bool) (level : _) (vs : Values) → theirs.side ≡ other side → EndAccount schema theirs others left → ArrivalsAreNoted schema (told_notes (other side) others.sent) e → take.taken_next e ≡ Some (item.Message m sync level) → m.body ≡ Request vs → IsAsked (other side) others (message_note schema m vs)
   taken-asked e theirs left m sync level vs is account noted next body = asked-of schema (other side) theirs others left (message_note schema m vs) is account (taken-noted e m sync level vs noted next body)
 
-  -- Behind a first part
+  -- After a first part
 
   pub first-made : {e f : End} {ws : List What} {ps : List Packet} {p : Phase} (own : EndReading) (theirs : End) (left their_left : List Note) → FirstPart schema e ws ps f p → f.side ≡ side → theirs.side ≡ other side → EndAccount schema f own (left ++ notes schema ps) → EndAccount schema theirs others their_left
       → ArrivalsAreNoted schema (told_notes (other side) others.sent) e → FreshIsMade own p
@@ -136,7 +133,7 @@ module _ (schema : Schema) (side : Side) (others : EndReading) where
   first-made own theirs left their_left (Parts.returns entry row vs told lost is x y) s t k l n id rest e = cc
   first-made own theirs left their_left (Parts.resumes wait row on_top found) s t k l n id rest e = cc
 
-  -- and behind the parts that follow
+  -- After the parts that follow
 
   find-grows : (test : told.Request → Bool) (rs more : List told.Request) (r : told.Request) → find test rs ≡ Some r → find test (rs ++ more) ≡ Some r
   find-grows test [] more r e = cc
@@ -157,12 +154,12 @@ module _ (schema : Schema) (side : Side) (others : EndReading) where
   makes-grows own next more phase.closes id is h = h
   makes-grows own next more phase.other id is h = h
 
-  made-behind : (place : ℕ) (ws : List What) (own : EndReading) (p : Phase) → FreshIsMade own p → FreshIsMade (after_whats schema place ws own) p
-  made-behind place ws own p h id rest e = let g = grows schema place ws own in makes-grows own (after_whats schema place ws own) g.0 p.start id g.1 (h id rest e)
+  made-following : (place : ℕ) (ws : List What) (own : EndReading) (p : Phase) → FreshIsMade own p → FreshIsMade (after_whats schema place ws own) p
+  made-following place ws own p h id rest e = let g = grows schema place ws own in makes-grows own (after_whats schema place ws own) g.0 p.start id g.1 (h id rest e)
 
   pub later-made : {p q : Phase} {e f : End} {ws : List What} {ps : List Packet} (place : ℕ) (own : EndReading) → LaterPart p e ws ps f q → KeepsActors schema p e (actor_reading own) → FreshIsMade own p → FreshIsMade (after_whats schema place ws own) q
-  later-made {p} {ws} place own (Parts.unnames name may silent) k h = made-behind place [] own p h
-  later-made {p} {ws} place own (Parts.lets_go name r may is o) k h = made-behind place ws own p h
+  later-made {p} {ws} place own (Parts.unnames name may silent) k h = made-following place [] own p h
+  later-made {p} {ws} place own (Parts.lets_go name r may is o) k h = made-following place ws own p h
   later-made {p} place own (Parts.names more a) k h = h
   later-made {p} place own (Parts.releases seq closed) k h = h
   later-made {p} place own (Parts.keeps seq name r is goes) k h = h
@@ -170,5 +167,5 @@ module _ (schema : Schema) (side : Side) (others : EndReading) where
       let pending : IsPending (built_ids schema builder own.built) (id ∷ rest) = subst (IsPending (built_ids schema builder own.built)) fresh k.ids.pending in
       let none : [] ≡ next ∷ more = sym pending.3 ∙ e in
       cc
-  later-made {p} {ws} place own (Parts.deletes id cause) k h = made-behind place ws own p h
-  later-made {p} {ws} place own (Parts.falls why cause) k h = made-behind place ws own p h
+  later-made {p} {ws} place own (Parts.deletes id cause) k h = made-following place ws own p h
+  later-made {p} {ws} place own (Parts.falls why cause) k h = made-following place ws own p h

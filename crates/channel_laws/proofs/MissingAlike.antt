@@ -1,4 +1,5 @@
--- The actors in values, and the first missing one, are the same by the world and by the lines, where who lives is the same.
+-- The actors in values, and the first missing one, are the same by the world and by the lines, if the same actors
+-- live by both.
 use Rattle.std.proofs.Common.{◌≡◌, ℤ, Bool, true, false, not, ◌&&◌, cond, List, [], ◌∷◌, ◌++◌, find, map, Option, Some, None, option_map, refl, sym, ap, ◌∙◌}
 use Rattle.std.specs.List.{AllByRecursion}
 use Rattle.std.specs.Option.{option_map_or}
@@ -23,7 +24,7 @@ use Rattle.channel_laws.proofs.NulledAlike.{same-fields}
 abbrev pub named : ActorValue → TypedActor
 named a = record { nullable = a.nullable; id = a.id }
 
--- What has no type has no actors
+-- A value that is not of its type has no actors
 
 both-none : (xs ys : List TypedActor) → xs ≡ [] → ys ≡ [] → xs ++ ys ≡ []
 both-none xs ys a b = ap (λ (l : List TypedActor). l ++ ys) a ∙ b

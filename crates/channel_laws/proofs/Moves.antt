@@ -1,4 +1,4 @@
--- A step of one of two ends: what it is made of, and both ends and their reading before it and behind.
+-- A step of one of two ends: what it is made of, and both ends and their reading before and after it.
 use Rattle.std.proofs.Common.{◌≡◌, ℕ, ◌+◌, Bool, true, false, List, [], ◌∷◌, ◌++◌, cond, drop, find, map, Some, option_map, refl, sym, ap, subst, ◌∙◌}
 use Rattle.ipdl_base.specs.declared.kinds.Side.{Side}
 use Rattle.ipdl_base.specs.declared.kinds.Side.TheVariants.{Parent, Child}
@@ -15,7 +15,7 @@ use Rattle.history_reading.specs.Reading.{Reading, end_reading_of, other_of}
 use Rattle.channel_model.specs.Ends.{End, World, Packet, message, StackEntry, end_of, link_to}
 use Rattle.channel_model.specs.Events.{Event}
 use Rattle.channel_model.specs.Events as event
-use Rattle.channel_model.specs.Numbers.{other}
+use Rattle.ipdl_base.specs.Sides.{other}
 use Rattle.channel_model.specs.Outputs.{Output, is_open, line_at, body_of}
 use Rattle.channel_model.specs.Parts.{OwnParts, DeliveryPart}
 use Rattle.channel_model.specs.Phases.{Phase}
@@ -40,7 +40,7 @@ pub data StepParts (schema : Schema) (e : End) (link : List Packet) : Event → 
   acts : {ev : Event} {ws : List What} {ps : List Packet} {f : End} {q : Phase} → after_event ev link ≡ link → OwnParts schema e ws ps f q → StepParts schema e link ev ws ps f q
   delivers : {ws : List What} {ps : List Packet} {f : End} {q : Phase} (packet : Packet) → first_packet link ≡ Some packet → is_open e.state ≡ true → DeliveryPart schema packet e ws ps f q → StepParts schema e link event.deliver ws ps f q
 
--- A step of an end: its lines on the end's side, its parts, and both ends with their reading before it and behind it.
+-- A step of an end: its lines on the end's side, its parts, and both ends with their reading before and after it.
 pub record EndMove (schema : Schema) (place : ℕ) (mine theirs : End) (own others : EndReading) (to_me to_them : List Packet) (ev : Event) (output : Output) : Type 0 where
   pub whats : List What
   pub phase : Phase

@@ -75,7 +75,7 @@ told-shows side (told.said n w) = refl
 told-shows side told.goodbye = refl
 told-shows side told.broken = refl
 
--- one of what was sent stands where its note does
+-- a packet that was sent has the place of its note
 note-at : (side : Side) (sent : List SentPacket) (front : List Note) (x : Note) (rest : List Note) → told_notes side sent ≡ front ++ x ∷ rest → option_map_or (λ t. same_packet (packet_kind t) (note_kind x)) (slice_get sent (length front)) false ≡ true
 note-at side [] [] x rest e = cc
 note-at side [] (y ∷ front) x rest e = cc
@@ -96,7 +96,7 @@ packet-next schema theirs others own packet rest c =
     ap (λ (n : ℕ). is_next_of others.sent n (delivered_kind packet)) count
     ∙ (ap (λ (s : PacketKind). is_next_of others.sent (length c.got) s) (sym (note-shows schema packet)) ∙ note-at theirs.side others.sent c.got x (notes schema rest ++ (notes schema (map message theirs.outbox) ++ c.sent.lost)) whole)
 
--- The lines of a step: only a delivery has one that is looked at, of the packet that it takes off the link
+-- The lines of a step: only a delivery has a line that is tested, for the packet that it takes off the link
 pub move-next : (schema : Schema) (place : ℕ) (mine theirs : End) (own others : EndReading) (to_me to_them : List Packet) (ev : Event) (output : Output) (m : EndMove schema place mine theirs own others to_me to_them ev output) → EndLinesPass schema (IsNext schema others) place m.whats own
 move-next schema place mine theirs own others to_me to_them ev output m = by m.parts
   where

@@ -1,4 +1,4 @@
--- What arrives is noted, and requests are read as their messages are, behind every step of one of two ends.
+-- What arrives is noted, and requests are read as their messages are, after every step of one of two ends.
 use Rattle.std.proofs.Common.{◌≡◌, ℕ, ◌+◌, ℤ, pos, Bool, true, false, if◌then◌else◌, List, [], ◌∷◌, ◌++◌, drop, Some, None, refl, sym, ap, subst, ◌∙◌}
 use Rattle.std.specs.List.{AllByRecursion}
 use Rattle.std.proofs.lemmas.List.{map-append}
@@ -11,7 +11,7 @@ use Rattle.ipdl_base.specs.declared.schema.Schema.{Schema}
 use Rattle.pending_queue.specs.declared.item.Item.{Item}
 use Rattle.pending_queue.specs.declared.item.Item.TheVariants as item
 use Rattle.pending_queue.specs.Compression.{staying}
-use Rattle.pending_queue.specs.Holding.{is_free, without_first}
+use Rattle.pending_queue.specs.DeferralContext.{is_free, without_first}
 use Rattle.history_reading.specs.declared.parts.PacketKind.TheVariants as seen
 use Rattle.history_reading.specs.EndReading.{EndReading, is_sync_request}
 use Rattle.history_reading.specs.Reading as reads
@@ -22,10 +22,10 @@ use Rattle.channel_model.specs.Answers as answering
 use Rattle.channel_model.specs.Deliveries as delivery
 use Rattle.channel_model.specs.Ends.{End, World, Packet, message, mark, end_of, link_to}
 use Rattle.channel_model.specs.Events.{Event, Move, Answering, handled, kept}
-use Rattle.channel_model.specs.Numbers.{other}
+use Rattle.ipdl_base.specs.Sides.{other}
 use Rattle.channel_model.specs.Outputs.{Output, is_open}
 use Rattle.channel_model.specs.Parts
-use Rattle.channel_model.specs.Parts.{FirstPart, LaterPart, LaterParts, OwnParts, DeliveryPart, end_behind, left_end, farewell_item}
+use Rattle.channel_model.specs.Parts.{FirstPart, LaterPart, LaterParts, OwnParts, DeliveryPart, end_after, left_end, farewell_item}
 use Rattle.channel_model.specs.Phases.{Phase}
 use Rattle.channel_model.specs.Runs.{world_after}
 use Rattle.channel_model.specs.Steps.{first_packet}
@@ -36,7 +36,7 @@ use Rattle.channel_laws.specs.NotedArrivals.{ItemIsNoted, ArrivalsAreNoted, HasW
 use Rattle.channel_laws.specs.Notes.{Note, packet_note, told_note, told_notes, In, here}
 use Rattle.channel_laws.specs.Tested.{after_whats, read_from}
 use Rattle.channel_laws.specs.TwoEnds.{LinkAccount}
-use Rattle.channel_laws.proofs.Growing.{grows, in-before, in-behind}
+use Rattle.channel_laws.proofs.Growing.{grows, in-before, in-following}
 use Rattle.channel_laws.proofs.EveryRun.{end-side}
 use Rattle.channel_laws.proofs.Moves.{StepParts, acts, delivers}
 use Rattle.channel_laws.proofs.Runs.{RunMove, AcrossEnds, across-ends, across-keep}
@@ -45,16 +45,16 @@ use Rattle.channel_laws.proofs.SentAccounts.{requests-append}
 -- What has arrived, and what arrives
 
 module _ (P : Item → Type 0) where
-  arrived-behind : (b : Bool) (e : End) → AllByRecursion P e.arrived → AllByRecursion P (end_behind b e).arrived
-  arrived-behind true e h = h
-  arrived-behind false e h = h
+  arrived-following : (b : Bool) (e : End) → AllByRecursion P e.arrived → AllByRecursion P (end_after b e).arrived
+  arrived-following true e h = h
+  arrived-following false e h = h
 
   arrived-without : (by : Answering) (e : End) → AllByRecursion P e.arrived → AllByRecursion P (answering.without_resolver by e).arrived
   arrived-without (handled seq) e h = h
   arrived-without (kept name number) e h = h
 
   arrived-left : (e : End) → AllByRecursion P e.arrived → AllByRecursion P (left_end e).arrived
-  arrived-left e h = all-sublist P (without_first (is_free (take.holding_of e)) e.arrived) e.arrived (without_first-sublist (is_free (take.holding_of e)) e.arrived) h
+  arrived-left e h = all-sublist P (without_first (is_free (take.deferral_context_of e)) e.arrived) e.arrived (without_first-sublist (is_free (take.deferral_context_of e)) e.arrived) h
 
   first-arrived : {schema : Schema} {e f : End} {ws : List What} {ps : List Packet} {p : Phase} → FirstPart schema e ws ps f p → AllByRecursion P e.arrived → AllByRecursion P f.arrived
   first-arrived (Parts.refuses w is) h = h
@@ -66,12 +66,12 @@ module _ (P : Item → Type 0) where
   first-arrived (Parts.dies o) h = tt
   first-arrived (Parts.dies_silent o alive) h = tt
   first-arrived {e} (Parts.takes m sync level row vs next body found stays) h = arrived-left e h
-  first-arrived {e} (Parts.drops m sync level row vs id replies next body found gone is) h = arrived-behind replies (left_end e) (arrived-left e h)
+  first-arrived {e} (Parts.drops m sync level row vs id replies next body found gone is) h = arrived-following replies (left_end e) (arrived-left e h)
   first-arrived {e} (Parts.drops_unknown m sync level vs next body found) h = arrived-left e h
   first-arrived {e} (Parts.takes_reply m sync level a next body settles) h = arrived-left e h
   first-arrived {e} (Parts.settles m sync level row a next body found is) h = arrived-left e h
   first-arrived (Parts.shuts last next is) h = tt
-  first-arrived {e} (Parts.returns entry row vs told lost is t l) h = arrived-behind lost (end_behind told (record e { stack = drop 1 e.stack })) (arrived-behind told (record e { stack = drop 1 e.stack }) h)
+  first-arrived {e} (Parts.returns entry row vs told lost is t l) h = arrived-following lost (end_after told (record e { stack = drop 1 e.stack })) (arrived-following told (record e { stack = drop 1 e.stack }) h)
   first-arrived (Parts.resumes wait row on_top found) h = h
 
   later-arrived : {p q : Phase} {e f : End} {ws : List What} {ps : List Packet} → LaterPart p e ws ps f q → AllByRecursion P e.arrived → AllByRecursion P f.arrived
@@ -96,11 +96,11 @@ module _ (P : Item → Type 0) where
   arrived-counted row m e new h =
       all-append P (staying row.compress (delivery.item_of row m) e.arrived) (delivery.item_of row m ∷ []) (all-sublist P (staying row.compress (delivery.item_of row m) e.arrived) e.arrived (staying-sublist row.compress (delivery.item_of row m) e.arrived) h) (new, tt)
 
-  -- and in a delivery the packet may
+  -- in a delivery the packet may arrive
   pub delivery-arrived : {schema : Schema} {packet : Packet} {e f : End} {ws : List What} {ps : List Packet} {q : Phase} → DeliveryPart schema packet e ws ps f q → ((m : Message) (row : MessageRow) → packet ≡ message m → P (delivery.item_of row m)) → P (farewell_item packet)
       → AllByRecursion P e.arrived → AllByRecursion P f.arrived
   delivery-arrived {e} (Parts.gets_request m row vs body found none) new last h = arrived-counted row m e (new m row refl) h
-  delivery-arrived {e} (Parts.replaces m row vs old sync level replies body found rep is) new last h = arrived-behind replies (delivery.counted row (delivery.item_of row m) e) (arrived-counted row m e (new m row refl) h)
+  delivery-arrived {e} (Parts.replaces m row vs old sync level replies body found rep is) new last h = arrived-following replies (delivery.counted row (delivery.item_of row m) e) (arrived-counted row m e (new m row refl) h)
   delivery-arrived (Parts.gets_answer m row a body found sync) new last h = h
   delivery-arrived {e} (Parts.gets_reply m row a body found sync) new last h = all-append P e.arrived (delivery.item_of row m ∷ []) h (new m row refl, tt)
   delivery-arrived {packet} {e} (Parts.drains _ is) new last h = all-append P e.arrived (farewell_item packet ∷ []) h (last, tt)
@@ -147,15 +147,15 @@ module _ (schema : Schema) where
   wants-one place (what.DeliverReply n) own h = wants-replying n own h
   wants-one place _ own h = h
 
-  wants-behind : (place : ℕ) (ws : List What) (own : EndReading) → HaveWantsOfRows schema own.sent → HaveWantsOfRows schema (after_whats schema place ws own).sent
-  wants-behind place [] own h = h
-  wants-behind place (w ∷ ws) own h = wants-behind (place + 1) ws (after_what schema place w own) (wants-one place w own h)
+  wants-following : (place : ℕ) (ws : List What) (own : EndReading) → HaveWantsOfRows schema own.sent → HaveWantsOfRows schema (after_whats schema place ws own).sent
+  wants-following place [] own h = h
+  wants-following place (w ∷ ws) own h = wants-following (place + 1) ws (after_what schema place w own) (wants-one place w own h)
 
   -- Both ends
 
   -- the first packet on a link is noted
   pub noted-coming : (theirs : End) (others own : EndReading) (packet : Packet) (rest : List Packet) → LinkAccount schema theirs others own (packet ∷ rest) → In (packet_note schema packet) (told_notes theirs.side others.sent)
-  noted-coming theirs others own packet rest c = subst (In (packet_note schema packet)) (sym c.sent.whole) (in-before _ (in-behind c.got here))
+  noted-coming theirs others own packet rest c = subst (In (packet_note schema packet)) (sym c.sent.whole) (in-before _ (in-following c.got here))
 
   item-grows : (sent more : List Note) (x : Item) → ItemIsNoted schema sent x → ItemIsNoted schema (sent ++ more) x
   item-grows sent more (item.Message m sync level) h = in-before more h
@@ -182,8 +182,8 @@ module _ (schema : Schema) where
         wants = h.wants;
       }
 
-  pub noted-behind : (move : Move) (w : World) (r : Reading) (output : Output) → RunMove schema move w r output → AcrossEnds schema (IsNoted schema) w r → AcrossEnds schema (IsNoted schema) (world_after move output w) (read_from schema r output.lines)
-  noted-behind move w r output m k =
+  pub noted-following : (move : Move) (w : World) (r : Reading) (output : Output) → RunMove schema move w r output → AcrossEnds schema (IsNoted schema) w r → AcrossEnds schema (IsNoted schema) (world_after move output w) (read_from schema r output.lines)
+  noted-following move w r output m k =
       let side : Side = move.side in
       let both = across-ends schema (IsNoted schema) side w r k in
       let sent_by : (end_of (other side) w).side ≡ other side = end-side schema (other side) w m.nested in
@@ -191,6 +191,6 @@ module _ (schema : Schema) where
       (record {
         arrived = mine-noted (end_of side w) (link_to side w) (told_notes (other side) (other_of side r).sent) m.ends.parts
             (λ packet first o. subst (λ (s : Side). In (packet_note schema packet) (told_notes s (other_of side r).sent)) sent_by (noted-coming (end_of (other side) w) (other_of side r) (end_reading_of side r) packet (drop 1 (link_to side w)) (m.ends.arrives packet first o).account)) both.0.arrived;
-        wants = wants-behind r.lines m.ends.whats (end_reading_of side r) both.0.wants;
+        wants = wants-following r.lines m.ends.whats (end_reading_of side r) both.0.wants;
       })
       (grown-noted side (end_reading_of side r) (end_of (other side) w) (other_of side r) r.lines m.ends.whats both.1)

@@ -1,4 +1,5 @@
--- Values with null in the place of dead actors are the same by the world and by the lines, where who lives is the same.
+-- Values with null in the place of dead actors are the same by the world and by the lines, if the same actors live by
+-- both.
 use Rattle.std.proofs.Common.{◌≡◌, ℤ, pos, Bool, true, false, not, ◌&&◌, if◌then◌else◌, List, [], ◌∷◌, ◌++◌, Option, Some, None, refl, ap, ◌∙◌}
 use Rattle.std.specs.List.{AllByRecursion}
 use Rattle.std.specs.Option.{option_map_or}
@@ -17,7 +18,7 @@ use Rattle.channel_model.specs.ValueActors as world
 use Rattle.channel_model.specs.ValueActors.{ActorValue, lives_as}
 use Rattle.channel_laws.specs.ValueReadings.{LivesAlike}
 
--- What has no type stays
+-- A value that is not of its type stays
 
 mutual
   untyped-value : (schema : Schema) (lives : ℤ → Bool) (v : Value) → lines.nulled schema lives None v ≡ v
@@ -44,16 +45,16 @@ mutual
   untyped-fields schema lives values.Nothing = refl
   untyped-fields schema lives (First' at v more vs) = ap (λ (x : Value). First' at x more (lines.nulled_fields schema lives [] vs)) (untyped-value schema lives v) ∙ ap (λ (x : Values). First' at v more x) (untyped-fields schema lives vs)
 
--- Who lives is the same for the actors in a value
+-- The same actors of a value live by both
 
 module _ (schema : Schema) (actors : List LivingActor) (lives : ℤ → Bool) where
   before : (xs ys : List ActorValue) → AllByRecursion (LivesAlike actors lives) (xs ++ ys) → AllByRecursion (LivesAlike actors lives) xs
   before [] ys h = tt
   before (x ∷ xs) ys h = (h.0, before xs ys h.1)
 
-  behind : (xs ys : List ActorValue) → AllByRecursion (LivesAlike actors lives) (xs ++ ys) → AllByRecursion (LivesAlike actors lives) ys
-  behind [] ys h = h
-  behind (x ∷ xs) ys h = behind xs ys h.1
+  following : (xs ys : List ActorValue) → AllByRecursion (LivesAlike actors lives) (xs ++ ys) → AllByRecursion (LivesAlike actors lives) ys
+  following [] ys h = h
+  following (x ∷ xs) ys h = following xs ys h.1
 
   null-or : (b c : Bool) (id : ℤ) → c ≡ b → (if true && not b then pos 0 else id) ≡ (if c then id else pos 0)
   null-or true true id e = refl
@@ -105,11 +106,11 @@ module _ (schema : Schema) (actors : List LivingActor) (lives : ℤ → Bool) wh
     same-all shape values.Nothing h = refl
     same-all shape (First' at v more vs) h =
         ap (λ (x : Value). First' at x more (lines.nulled_each schema lives (Some shape) vs)) (same-value shape v (before (world.actors_in schema shape v) (world.actors_in_all schema shape vs) h))
-        ∙ ap (λ (x : Values). First' at (world.nulled_value schema actors shape v) more x) (same-all shape vs (behind (world.actors_in schema shape v) (world.actors_in_all schema shape vs) h))
+        ∙ ap (λ (x : Values). First' at (world.nulled_value schema actors shape v) more x) (same-all shape vs (following (world.actors_in schema shape v) (world.actors_in_all schema shape vs) h))
 
     pub same-fields : (fields : List ParamRow) (vs : Values) → AllByRecursion (LivesAlike actors lives) (world.actors_in_parts schema fields vs) → lines.nulled_fields schema lives fields vs ≡ world.nulled schema actors fields vs
     same-fields [] vs h = untyped-fields schema lives vs
     same-fields (field ∷ fields) values.Nothing h = refl
     same-fields (field ∷ fields) (First' at v more vs) h =
         ap (λ (x : Value). First' at x more (lines.nulled_fields schema lives fields vs)) (same-value field.shape v (before (world.actors_in schema field.shape v) (world.actors_in_parts schema fields vs) h))
-        ∙ ap (λ (x : Values). First' at (world.nulled_value schema actors field.shape v) more x) (same-fields fields vs (behind (world.actors_in schema field.shape v) (world.actors_in_parts schema fields vs) h))
+        ∙ ap (λ (x : Values). First' at (world.nulled_value schema actors field.shape v) more x) (same-fields fields vs (following (world.actors_in schema field.shape v) (world.actors_in_parts schema fields vs) h))

@@ -1,4 +1,4 @@
--- Where no actor in values is missing, each is null or lives once those that do not live are null.
+-- If no actor in values is missing, each is null or lives once those that do not live are null.
 use Rattle.std.proofs.Common.{◌≡◌, ℤ, pos, Bool, true, false, not, ◌&&◌, cond, if◌then◌else◌, int_eq, List, [], ◌∷◌, ◌++◌, find, map, Option, Some, None, is_none, option_map, refl, sym, ap, ◌∙◌}
 use Rattle.std.proofs.lemmas.List.{map-append}
 use Rattle.history_reading.specs.Nulled
@@ -12,7 +12,7 @@ use Rattle.ipdl_base.specs.declared.value.Values.{Values, First'}
 use Rattle.ipdl_base.specs.declared.value.Values.TheVariants as values
 
 module _ (schema : Schema) (lives : ℤ → Bool) where
-  -- an actor with null in its place, where it does not live and its type has null
+  -- an actor with null in its place, if it does not live and its type is nullable
   abbrev null_or : TypedActor → TypedActor
   null_or a = record { nullable = a.nullable; id = if a.nullable && not (lives a.id) then pos 0 else a.id }
 
@@ -63,7 +63,7 @@ module _ (schema : Schema) (lives : ℤ → Bool) where
   live-or false true e = refl
   live-or false false e = cc
 
-  -- one that is not missing is not dead once it is nulled
+  -- an actor that is not missing is not dead once it is nulled
   one-live : (a : TypedActor) (b l : Bool) → a.nullable ≡ b → lives a.id ≡ l → not b && not l ≡ false → Nulled.is_dead lives (null_or a) ≡ false
   one-live a b true is alive e =
       ap (λ (id : ℤ). not (int_eq id (pos 0)) && not (lives id)) (ap (λ (x : Bool). if a.nullable && not x then pos 0 else a.id) alive ∙ stays a.nullable) ∙ live-or (int_eq a.id (pos 0)) (lives a.id) alive

@@ -1,5 +1,5 @@
--- All requests whose numbers an end keeps are noted: each part of a step keeps that, and prints the values of answers to
--- such requests alone.
+-- All requests whose numbers an end keeps are noted: each part of a step keeps that, and prints the values of answers
+-- only to such requests.
 use Rattle.std.proofs.Common.{◌≡◌, ◌==◌, ℕ, suc, ℤ, Bool, true, false, not, ◌&&◌, cond, if◌then◌else◌, List, [], ◌∷◌, ◌++◌, drop, find, map, filter, flat_map, Option, Some, None, is_some, option_map, option_and_then, refl, ap, subst}
 use Rattle.std.specs.List.{AllByRecursion, slice_get}
 use Rattle.std.specs.Option.{option_map_or, IsSomeAnd}
@@ -37,10 +37,11 @@ use Rattle.channel_model.specs.Ends.{End, Packet, message, mark, StackEntry, Pro
 use Rattle.channel_model.specs.Events.{Answering, handled, kept}
 use Rattle.channel_model.specs.Falls as fall
 use Rattle.channel_model.specs.Names.{has_name, is_actor}
-use Rattle.channel_model.specs.Numbers.{is_sync_row, makes_promise, top_id}
+use Rattle.ipdl_base.specs.Sides.{top_id}
+use Rattle.channel_model.specs.Numbers.{is_sync_row, makes_promise}
 use Rattle.channel_model.specs.Outputs.{AnsweredRequest, request_answered, resolver_answered}
 use Rattle.channel_model.specs.Parts as parts
-use Rattle.channel_model.specs.Parts.{FirstPart, LaterPart, LaterParts, DeliveryPart, HoldsActor, IsRefusal, IsRenaming, reply_lines, fall_lines, farewell_line, end_behind}
+use Rattle.channel_model.specs.Parts.{FirstPart, LaterPart, LaterParts, DeliveryPart, HoldsActor, IsRefusal, IsRenaming, reply_lines, fall_lines, farewell_line, end_after}
 use Rattle.channel_model.specs.Phases.{Phase}
 use Rattle.channel_model.specs.Returns as return
 use Rattle.channel_model.specs.Sends as send
@@ -53,7 +54,7 @@ use Rattle.channel_laws.proofs.PartLines.{mapped-lines, flat-lines}
 use Rattle.channel_laws.proofs.Rows.{request-message}
 use Rattle.channel_laws.proofs.Track.{all-found}
 
--- The protocol that a constructor makes is there
+-- The protocol that a constructor makes exists
 
 abbrev pub MakesProtocol : Schema → Kind → Type 0
 MakesProtocol schema kind = (protocol : ℕ) → kind ≡ Constructor protocol → is_some (slice_get schema.protocols protocol) ≡ true
@@ -83,9 +84,10 @@ row-makes schema sound n row found =
     (λ p protocol at. all-places (λ (r : MessageRow). MakesProtocol schema r.kind) protocol.messages (λ i r here. kind-makes schema p i protocol r ((sound.protocols p protocol at).messages i r here)))) in
     all-found (λ (r : MessageRow). MakesProtocol schema r.kind) (has_number n) (flat_map (λ (p : ProtocolRow). p.messages) schema.protocols) row all found
 
--- What lines ask for and give
+-- What lines look up and give
 
--- a line prints values of an answer to a request that has a property, and builds actors of protocols that are there
+-- a line prints values of an answer only to a request that has a property, and builds only actors of protocols that
+-- exist
 abbrev pub Asks : Schema → (ℤ → Type 0) → What → Type 0
 Asks schema P (what.Resolve n vs) = P n
 Asks schema P (what.ResumeOk n vs) = P n
@@ -94,7 +96,7 @@ Asks schema P (what.Resolved n vs) = P n
 Asks schema P (what.Built id protocol) = is_some (slice_get schema.protocols protocol) ≡ true
 Asks schema P _ = Unit {0}
 
--- a request that a line gives has it
+-- a request that a line gives has the property
 abbrev pub Gives : (ℤ → Type 0) → What → Type 0
 Gives P (what.Send n route number vs) = P n
 Gives P (what.Call n transaction route number vs) = P n
@@ -105,7 +107,7 @@ abbrev ContentHas : (ℤ → Type 0) → NameContent → Type 0
 ContentHas P (actor id) = Unit {0}
 ContentHas P (resolver r) = P r.seq
 
--- all numbers of requests that an end keeps have it: those of frames, of resolvers and of promises
+-- all numbers of requests that an end keeps have the property: those of frames, of resolvers and of promises
 pub record KeepsNumbers (P : ℤ → Type 0) (e : End) : Type 0 where
   pub stack : AllByRecursion (λ entry. P (head_of entry.frame).seq) e.stack
   pub names : AllByRecursion (λ naming. ContentHas P naming.holds) e.names
@@ -327,7 +329,7 @@ module _ (schema : Schema) (P : ℤ → Type 0) where
       by (Wait head None) h e = cc
       by (Wait head (Some a)) h e = subst P (ap (λ (w : return.AnsweredWait). w.seq) (same_Some (record { seq = head.seq; number = y.number; given = a }) wait e)) h
 
-  -- What each part asks for
+  -- What each part looks up
 
   pub delivery-asks : {packet : Packet} {q : Phase} {e f : End} {ws : List What} {ps : List Packet} → DeliveryPart schema packet e ws ps f q → AllByRecursion (Asks schema P) ws
   delivery-asks (parts.gets_request m row vs body found none) = (tt, tt)
@@ -391,13 +393,13 @@ module _ (schema : Schema) (P : ℤ → Type 0) where
 
   -- What each part keeps
 
-  behind-has : (b : Bool) (e : End) → KeepsNumbers P e → KeepsNumbers P (end_behind b e)
-  behind-has true e k = record { stack = k.stack; names = k.names; promised = k.promised }
-  behind-has false e k = k
+  following-has : (b : Bool) (e : End) → KeepsNumbers P e → KeepsNumbers P (end_after b e)
+  following-has true e k = record { stack = k.stack; names = k.names; promised = k.promised }
+  following-has false e k = k
 
   pub delivery-keeps : {packet : Packet} {q : Phase} {e f : End} {ws : List What} {ps : List Packet} → DeliveryPart schema packet e ws ps f q → KeepsNumbers P e → KeepsNumbers P f
   delivery-keeps (parts.gets_request m row vs body found none) k = record { stack = k.stack; names = k.names; promised = k.promised }
-  delivery-keeps {e} (parts.replaces m row vs old sync level replies body found rep is) k = behind-has replies (delivery.counted row (delivery.item_of row m) e) (record { stack = k.stack; names = k.names; promised = k.promised })
+  delivery-keeps {e} (parts.replaces m row vs old sync level replies body found rep is) k = following-has replies (delivery.counted row (delivery.item_of row m) e) (record { stack = k.stack; names = k.names; promised = k.promised })
   delivery-keeps {e} (parts.gets_answer m row a body found is) k = record { stack = answered-has a e.stack k.stack; names = k.names; promised = k.promised }
   delivery-keeps (parts.gets_reply m row a body found is) k = record { stack = k.stack; names = k.names; promised = k.promised }
   delivery-keeps {e} (parts.drains packet is) k = record { stack = failed-has e.stack k.stack; names = k.names; promised = k.promised }
@@ -427,13 +429,13 @@ module _ (schema : Schema) (P : ℤ → Type 0) where
   first-keeps (parts.dies o) g k = record { stack = tt; names = k.names; promised = k.promised }
   first-keeps (parts.dies_silent o alive) g k = record { stack = tt; names = k.names; promised = k.promised }
   first-keeps (parts.takes m sync level row vs next body found stays) g k = record { stack = (g.0, k.stack); names = k.names; promised = k.promised }
-  first-keeps {e} (parts.drops m sync level row vs id replies next body found gone is) g k = behind-has replies (parts.left_end e) (record { stack = k.stack; names = k.names; promised = k.promised })
+  first-keeps {e} (parts.drops m sync level row vs id replies next body found gone is) g k = following-has replies (parts.left_end e) (record { stack = k.stack; names = k.names; promised = k.promised })
   first-keeps (parts.drops_unknown m sync level vs next body none) g k = record { stack = k.stack; names = k.names; promised = k.promised }
   first-keeps (parts.takes_reply m sync level a next body late) g k = record { stack = k.stack; names = k.names; promised = k.promised }
   first-keeps {e} (parts.settles m sync level row a next body found is) g k = record { stack = k.stack; names = k.names; promised = settled-have m.seq (parts.reply_outcome schema e row a) e.promises k.promised }
   first-keeps {e} (parts.shuts last next is) g k = record { stack = k.stack; names = all-filter NamingHas is_actor e.names k.names; promised = k.promised }
   first-keeps {e} (parts.returns entry row vs told lost on_top t l) g k =
-      behind-has lost (end_behind told (record e { stack = drop 1 e.stack })) (behind-has told (record e { stack = drop 1 e.stack }) (record { stack = all-drop FrameHas e.stack k.stack; names = k.names; promised = k.promised }))
+      following-has lost (end_after told (record e { stack = drop 1 e.stack })) (following-has told (record e { stack = drop 1 e.stack }) (record { stack = all-drop FrameHas e.stack k.stack; names = k.names; promised = k.promised }))
   first-keeps {e} (parts.resumes wait row on_top found) g k = record { stack = all-drop FrameHas e.stack k.stack; names = k.names; promised = k.promised }
 
   later-keeps : {p q : Phase} {e f : End} {ws : List What} {ps : List Packet} → LaterPart p e ws ps f q → KeepsNumbers P e → KeepsNumbers P f

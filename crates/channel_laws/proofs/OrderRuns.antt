@@ -18,10 +18,11 @@ use Rattle.channel_model.specs.Deliveries as delivery
 use Rattle.channel_model.specs.Ends.{End, World, Packet, message, opening}
 use Rattle.channel_model.specs.Events.{Event, Move}
 use Rattle.channel_model.specs.Events as event
-use Rattle.channel_model.specs.Numbers.{other, counting}
+use Rattle.ipdl_base.specs.Sides.{other}
+use Rattle.channel_model.specs.Numbers.{counting}
 use Rattle.channel_model.specs.Outputs.{Output, is_open, body_of}
 use Rattle.channel_model.specs.Parts
-use Rattle.channel_model.specs.Parts.{OwnParts, DeliveryPart, end_behind}
+use Rattle.channel_model.specs.Parts.{OwnParts, DeliveryPart, end_after}
 use Rattle.channel_model.specs.Phases.{Phase}
 use Rattle.channel_model.specs.Runs.{after_event, output_of, passed_by, happens, run}
 use Rattle.channel_model.specs.StepLaws.{IsStepOfParts}
@@ -41,9 +42,9 @@ use Rattle.channel_laws.proofs.WorldSteps.{move-waits, opening-waits}
 module _ (schema : Schema) where
   -- What is delivered is the next
 
-  behind-delivered : (b : Bool) (e : End) (P : ℕ → ℕ → Type 0) → P e.delivered e.constructors_delivered → P (end_behind b e).delivered (end_behind b e).constructors_delivered
-  behind-delivered true e P h = h
-  behind-delivered false e P h = h
+  following-delivered : (b : Bool) (e : End) (P : ℕ → ℕ → Type 0) → P e.delivered e.constructors_delivered → P (end_after b e).delivered (end_after b e).constructors_delivered
+  following-delivered true e P h = h
+  following-delivered false e P h = h
 
   request-delivered : (side : Side) (m : Message) (row : MessageRow) (vs : Values) (goes_on : ℕ → ℕ → Type 0) (n c : ℕ) → m.body ≡ Request vs → message_of schema m.number ≡ Some row → BodyInOrder schema side m m.body goes_on n c → goes_on (n + 1) (counting row.kind c)
   request-delivered side m row vs goes_on n c body found h =
@@ -64,19 +65,19 @@ module _ (schema : Schema) where
       → InOrder schema side (packet ∷ rest) last made e.delivered e.constructors_delivered → InOrder schema side rest last made f.delivered f.constructors_delivered
   delivery-order {e} side rest last made (Parts.gets_request m row vs body found none) o h = request-delivered side m row vs (InOrder schema side rest last made) e.delivered e.constructors_delivered body found h
   delivery-order {e} side rest last made (Parts.replaces m row vs old sync level replies body found rep is) o h =
-      behind-delivered replies (delivery.counted row (delivery.item_of row m) e) (InOrder schema side rest last made) (request-delivered side m row vs (InOrder schema side rest last made) e.delivered e.constructors_delivered body found h)
+      following-delivered replies (delivery.counted row (delivery.item_of row m) e) (InOrder schema side rest last made) (request-delivered side m row vs (InOrder schema side rest last made) e.delivered e.constructors_delivered body found h)
   delivery-order {e} side rest last made (Parts.gets_answer m row a body found sync) o h = reply-delivered side m a (InOrder schema side rest last made) e.delivered e.constructors_delivered body h
   delivery-order {e} side rest last made (Parts.gets_reply m row a body found sync) o h = reply-delivered side m a (InOrder schema side rest last made) e.delivered e.constructors_delivered body h
   delivery-order side rest last made (Parts.drains packet is) o h = cc
   delivery-order {e} side rest last made (Parts.passes_by m other none) o h = unknown-delivered side m m.body (InOrder schema side rest last made) e.delivered e.constructors_delivered none h
 
-  -- More is put on the way
-  way-behind : (e f : End) (link ps : List Packet) (posts : Posts schema e ps f) → on_way f (link ++ ps) ≡ on_way e link ++ posts.news
-  way-behind e f link ps posts = append_assoc link ps (map message f.outbox) ∙ (ap (λ (l : List Packet). link ++ l) posts.posted ∙ sym (append_assoc link (map message e.outbox) posts.news))
+  -- More packets are put on the way
+  way-following : (e f : End) (link ps : List Packet) (posts : Posts schema e ps f) → on_way f (link ++ ps) ≡ on_way e link ++ posts.news
+  way-following e f link ps posts = append_assoc link ps (map message f.outbox) ∙ (ap (λ (l : List Packet). link ++ l) posts.posted ∙ sym (append_assoc link (map message e.outbox) posts.news))
 
   goes-on : (side : Side) (e f : End) (link ps : List Packet) (n c : ℕ) → e.side ≡ side → Posts schema e ps f → InOrder schema side (on_way e link) e.sent e.constructors_sent n c → InOrder schema side (on_way f (link ++ ps)) f.sent f.constructors_sent n c
   goes-on side e f link ps n c is posts h =
-      subst (λ (l : List Packet). InOrder schema side l f.sent f.constructors_sent n c) (sym (way-behind e f link ps posts))
+      subst (λ (l : List Packet). InOrder schema side l f.sent f.constructors_sent n c) (sym (way-following e f link ps posts))
       (order-append schema side (on_way e link) posts.news e.sent e.constructors_sent f.sent f.constructors_sent n c (subst (λ (s : Side). InOrder schema s posts.news f.sent f.constructors_sent e.sent e.constructors_sent) is posts.order) h)
 
   -- Steps
@@ -117,15 +118,15 @@ module _ (schema : Schema) where
   flip : {side their_side : Side} {mine theirs : End} {to_me to_them : List Packet} → EndsInOrder schema side their_side mine theirs to_me to_them → EndsInOrder schema their_side side theirs mine to_them to_me
   flip h = record { comes = h.goes; goes = h.comes }
 
-  pub order-behind : (side : Side) (ev : Event) (w : World) (found : Option Output) → output_of schema w (record { side = side; event = ev }) ≡ found → IsNestedWorld schema w → WorldInOrder schema w → WorldInOrder schema (passed_by found (record { side = side; event = ev }) w).world
-  order-behind side ev w None is n h = h
-  order-behind Parent ev w (Some o) is n h = moved Parent Child ev w.parent w.child w.to_parent w.to_child o n.parent (from-side schema Parent w n) h (steps_are_made_of_parts schema w.parent w.to_parent ev o is)
-  order-behind Child ev w (Some o) is n h = flip (moved Child Parent ev w.child w.parent w.to_child w.to_parent o n.child (from-side schema Child w n) (flip h) (steps_are_made_of_parts schema w.child w.to_child ev o is))
+  pub order-following : (side : Side) (ev : Event) (w : World) (found : Option Output) → output_of schema w (record { side = side; event = ev }) ≡ found → IsNestedWorld schema w → WorldInOrder schema w → WorldInOrder schema (passed_by found (record { side = side; event = ev }) w).world
+  order-following side ev w None is n h = h
+  order-following Parent ev w (Some o) is n h = moved Parent Child ev w.parent w.child w.to_parent w.to_child o n.parent (from-side schema Parent w n) h (steps_are_made_of_parts schema w.parent w.to_parent ev o is)
+  order-following Child ev w (Some o) is n h = flip (moved Child Parent ev w.child w.parent w.to_child w.to_parent o n.child (from-side schema Child w n) (flip h) (steps_are_made_of_parts schema w.child w.to_child ev o is))
 
   runs-in-order : IsSound schema → (moves : List Move) (w : World) → IsNestedWorld schema w → WorldInOrder schema w → WorldInOrder schema (run schema moves w).world
   runs-in-order sound [] w n h = h
   runs-in-order sound (move ∷ moves) w n h =
-      runs-in-order sound moves (happens schema w move).world (move-waits schema (sound_schemas_have_sound_rows schema sound) move w n) (order-behind move.side move.event w (output_of schema w move) refl n h)
+      runs-in-order sound moves (happens schema w move).world (move-waits schema (sound_schemas_have_sound_rows schema sound) move w n) (order-following move.side move.event w (output_of schema w move) refl n h)
 
   pub opening-in-order : (top : ℕ) → WorldInOrder schema (opening top)
   opening-in-order top = record { comes = λ o. (refl, refl); goes = λ o. (refl, refl) }

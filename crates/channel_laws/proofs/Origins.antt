@@ -1,4 +1,4 @@
--- Each part of a step keeps that all comes from what the other end has sent, and sends replies to that alone.
+-- Each part of a step keeps that all belongs to what the other end has sent, and sends replies only to that.
 use Rattle.std.proofs.Common.{◌≡◌, ◌==◌, ℕ, ◌+◌, ℤ, Bool, true, false, not, ◌&&◌, ◌||◌, cond, int_eq, List, [], ◌∷◌, ◌++◌, drop, find, map, Option, Some, None, is_some, option_map, option_and_then, refl, sym, ap, subst, ◌∙◌}
 use Rattle.std.specs.List.{AllByRecursion}
 use Rattle.std.proofs.lemmas.Option.{same_Some}
@@ -20,7 +20,7 @@ use Rattle.nesting_core.specs.Frames.{head_of, is_dispatch}
 use Rattle.pending_queue.specs.declared.item.Item.{Item}
 use Rattle.pending_queue.specs.declared.item.Item.TheVariants as item
 use Rattle.pending_queue.specs.Compression.{replaced, staying, is_request, is_request_of}
-use Rattle.pending_queue.specs.Holding.{is_free, without_first}
+use Rattle.pending_queue.specs.DeferralContext.{is_free, without_first}
 use Rattle.nesting_core.specs.Top.{top_of}
 use Rattle.channel_model.specs.Acts.{goodbye}
 use Rattle.channel_model.specs.Answers as answering
@@ -39,7 +39,7 @@ use Rattle.channel_model.proofs.Sublists.{all-sublist, without_first-sublist, st
 use Rattle.ipdl_base.specs.declared.line.What.{What}
 use Rattle.channel_model.specs.Phases.{Phase}
 use Rattle.channel_model.specs.Parts as parts
-use Rattle.channel_model.specs.Parts.{FirstPart, LaterPart, DeliveryPart, HoldsActor, IsRefusal, IsRenaming, behind_outbox, reply_packet, reply_packets, end_behind, left_end, outbox_after, request_packets, farewell_item}
+use Rattle.channel_model.specs.Parts.{FirstPart, LaterPart, DeliveryPart, HoldsActor, IsRefusal, IsRenaming, after_outbox, reply_packet, reply_packets, end_after, left_end, outbox_after, request_packets, farewell_item}
 use Rattle.channel_model.proofs.FittingEnds.{all-drop}
 use Rattle.channel_model.proofs.FittingRequests.{promise-reply}
 use Rattle.channel_laws.proofs.Track.{all-found}
@@ -89,20 +89,20 @@ module _ (schema : Schema) (theirs : List Note) where
   outbox-replies : (e : End) → HasOrigins schema theirs e → AllByRecursion (PacketReplies schema theirs) (map message e.outbox)
   outbox-replies e k = all-messages (PacketReplies schema theirs) (IsRequestMessage schema) e.outbox (λ m h. asks-replies m m.body h) k.outbox
 
-  behind_outbox-replies : (e : End) (p : Packet) → HasOrigins schema theirs e → PacketReplies schema theirs p → AllByRecursion (PacketReplies schema theirs) (behind_outbox e p)
-  behind_outbox-replies e p k h = all-append (PacketReplies schema theirs) (map message e.outbox) (p ∷ []) (outbox-replies e k) (h, tt)
+  after_outbox-replies : (e : End) (p : Packet) → HasOrigins schema theirs e → PacketReplies schema theirs p → AllByRecursion (PacketReplies schema theirs) (after_outbox e p)
+  after_outbox-replies e p k h = all-append (PacketReplies schema theirs) (map message e.outbox) (p ∷ []) (outbox-replies e k) (h, tt)
 
   reply-replies : (q : AnsweredRequest) (a : Answer) (o : Origin schema theirs q.seq q.route q.number) → has_reply o.row ≡ true → PacketReplies schema theirs (reply_packet q a)
   reply-replies q (answer.Ok vs) o r = record { number = q.number; is = refl; origin = o; replied = r }
   reply-replies q (answer.Fault reason) o r = record { number = q.number; is = refl; origin = o; replied = r }
 
   reply-packets : (b : Bool) (e : End) (q : AnsweredRequest) (a : Answer) → HasOrigins schema theirs e → (o : Origin schema theirs q.seq q.route q.number) → (b ≡ true → has_reply o.row ≡ true) → AllByRecursion (PacketReplies schema theirs) (reply_packets b e q a)
-  reply-packets true e q a k o r = behind_outbox-replies e (reply_packet q a) k (reply-replies q a o (r refl))
+  reply-packets true e q a k o r = after_outbox-replies e (reply_packet q a) k (reply-replies q a o (r refl))
   reply-packets false e q a k o r = tt
 
-  end_behind-origins : (b : Bool) (e : End) → HasOrigins schema theirs e → HasOrigins schema theirs (end_behind b e)
-  end_behind-origins true e k = record { entries = k.entries; names = k.names; arrived = k.arrived; outbox = tt }
-  end_behind-origins false e k = k
+  end_after-origins : (b : Bool) (e : End) → HasOrigins schema theirs e → HasOrigins schema theirs (end_after b e)
+  end_after-origins true e k = record { entries = k.entries; names = k.names; arrived = k.arrived; outbox = tt }
+  end_after-origins false e k = k
 
   -- stacks
 
@@ -214,14 +214,14 @@ module _ (schema : Schema) (theirs : List Note) where
   taken-origin e x k next = by (take.takes_in_state e.state && take.takes_under (top_of (send.frames_of e))) next
     where
       by : (b : Bool) → cond b (take.first_free e) None ≡ Some x → ItemOrigin schema theirs x
-      by true is = all-found (ItemOrigin schema theirs) (is_free (take.holding_of e)) e.arrived x k.arrived is
+      by true is = all-found (ItemOrigin schema theirs) (is_free (take.deferral_context_of e)) e.arrived x k.arrived is
       by false is = cc
 
   pub body-asks : (m : Message) (vs : Values) → m.body ≡ Request vs → is_request m.body ≡ true
   body-asks m vs body = ap is_request body
 
   left-origins : (e : End) → HasOrigins schema theirs e → HasOrigins schema theirs (left_end e)
-  left-origins e k = record { entries = k.entries; names = k.names; arrived = all-sublist (ItemOrigin schema theirs) (without_first (is_free (take.holding_of e)) e.arrived) e.arrived (without_first-sublist (is_free (take.holding_of e)) e.arrived) k.arrived; outbox = k.outbox }
+  left-origins e k = record { entries = k.entries; names = k.names; arrived = all-sublist (ItemOrigin schema theirs) (without_first (is_free (take.deferral_context_of e)) e.arrived) e.arrived (without_first-sublist (is_free (take.deferral_context_of e)) e.arrived) k.arrived; outbox = k.outbox }
 
   counted-origins : (e : End) (row : MessageRow) (m : Message) → ItemOrigin schema theirs (delivery.item_of row m) → HasOrigins schema theirs e → HasOrigins schema theirs (delivery.counted row (delivery.item_of row m) e)
   counted-origins e row m new k = record {
@@ -241,7 +241,7 @@ module _ (schema : Schema) (theirs : List Note) where
 
   -- Every part
 
-  -- the end's things come from what the other end has sent, and what it sends replies to that
+  -- all that the end has belongs to what the other end has sent, and its replies are to that
   abbrev pub Both : End → List Packet → Type 0
   Both f ps = HasOrigins schema theirs f × AllByRecursion (PacketReplies schema theirs) ps
 
@@ -260,17 +260,17 @@ module _ (schema : Schema) (theirs : List Note) where
       sends-origins : (lazy sync wants : Bool) → Both (record e { sent = e.sent + 1; constructors_sent = counting row.kind e.constructors_sent; outbox = outbox_after lazy (send.request_of e row route vs) e.outbox; stack = cond sync (send.wait_for row (send.request_of e row route vs) ∷ e.stack) e.stack; promises = cond wants (e.promises ++ parts.promise_for (send.request_of e row route vs) ∷ []) e.promises }) (request_packets lazy e (send.request_of e row route vs))
       sends-origins true true wants = (record { entries = (waiting, k.entries); names = k.names; arrived = k.arrived; outbox = all-append (IsRequestMessage schema) e.outbox (send.request_of e row route vs ∷ []) k.outbox ((row, sent.found), tt) }, tt)
       sends-origins true false wants = (record { entries = k.entries; names = k.names; arrived = k.arrived; outbox = all-append (IsRequestMessage schema) e.outbox (send.request_of e row route vs ∷ []) k.outbox ((row, sent.found), tt) }, tt)
-      sends-origins false true wants = (record { entries = (waiting, k.entries); names = k.names; arrived = k.arrived; outbox = tt }, behind_outbox-replies e (message (send.request_of e row route vs)) k (row, sent.found))
-      sends-origins false false wants = (record { entries = k.entries; names = k.names; arrived = k.arrived; outbox = tt }, behind_outbox-replies e (message (send.request_of e row route vs)) k (row, sent.found))
+      sends-origins false true wants = (record { entries = (waiting, k.entries); names = k.names; arrived = k.arrived; outbox = tt }, after_outbox-replies e (message (send.request_of e row route vs)) k (row, sent.found))
+      sends-origins false false wants = (record { entries = k.entries; names = k.names; arrived = k.arrived; outbox = tt }, after_outbox-replies e (message (send.request_of e row route vs)) k (row, sent.found))
   first-origins {e} (parts.answers by vs r row found may ok used) k =
-      (without-origins by e k, behind_outbox-replies e (message (reply_to (resolver_answered r) (answering.answer_body vs))) k (answer-replies vs))
+      (without-origins by e k, after_outbox-replies e (message (reply_to (resolver_answered r) (answering.answer_body vs))) k (answer-replies vs))
     where
       answer-replies : (vs : Option Values) → PacketReplies schema theirs (message (reply_to (resolver_answered r) (answering.answer_body vs)))
       answer-replies None = record { number = r.number; is = refl; origin = (used-origin e by r k used).origin; replied = promise-reply (used-origin e by r k used).origin.row (used-origin e by r k used).promised }
       answer-replies (Some us) = record { number = r.number; is = refl; origin = (used-origin e by r k used).origin; replied = promise-reply (used-origin e by r k used).origin.row (used-origin e by r k used).promised }
   first-origins {e} (parts.closes o waits) k =
-      (record { entries = k.entries; names = all-filter (NamingOrigin schema theirs) is_actor e.names k.names; arrived = tt; outbox = tt }, behind_outbox-replies e (message goodbye) k tt)
-  first-origins {e} (parts.dies o) k = (record { entries = tt; names = k.names; arrived = tt; outbox = tt }, behind_outbox-replies e mark k tt)
+      (record { entries = k.entries; names = all-filter (NamingOrigin schema theirs) is_actor e.names k.names; arrived = tt; outbox = tt }, after_outbox-replies e (message goodbye) k tt)
+  first-origins {e} (parts.dies o) k = (record { entries = tt; names = k.names; arrived = tt; outbox = tt }, after_outbox-replies e mark k tt)
   first-origins {e} (parts.dies_silent o alive) k = (record { entries = tt; names = k.names; arrived = tt; outbox = k.outbox }, tt)
   first-origins {e} (parts.takes m sync level row vs next body found stays) k =
       let l : HasOrigins schema theirs (left_end e) = left-origins e k in
@@ -280,7 +280,7 @@ module _ (schema : Schema) (theirs : List Note) where
   first-origins {e} (parts.drops m sync level row vs id replies next body found gone is) k =
       let o : Origin schema theirs m.seq m.route m.number = request-origin m m.body (body-asks m vs body) (taken-origin e (item.Message m sync level) k next) in
       let same_row : row ≡ o.row = same_Some row o.row (sym found ∙ request-message schema m.number o.row o.found) in (
-        end_behind-origins replies (left_end e) (left-origins e k),
+        end_after-origins replies (left_end e) (left-origins e k),
         reply-packets replies e (request_answered m) (answer.Fault ActorDestroyed) k o (λ w. answered-replied o.row (ap parts.owes_reply (sym same_row) ∙ and-right (is_open e.state) (parts.owes_reply row) (sym is ∙ w))),
       )
   first-origins {e} (parts.drops_unknown m sync level vs next body none) k = (left-origins e k, tt)
@@ -291,10 +291,10 @@ module _ (schema : Schema) (theirs : List Note) where
       let top = top-origin e.stack entry on_top.on_top k.entries in
       let o : Origin schema theirs (head_of entry.frame).seq entry.route entry.number = record { row = top.0.row; found = top.0.found; requested = top.0.requested top.1 } in
       let popped : HasOrigins schema theirs (record e { stack = drop 1 e.stack }) = record { entries = all-drop (EntryOrigin schema theirs) e.stack k.entries; names = k.names; arrived = k.arrived; outbox = k.outbox } in (
-        end_behind-origins lost (end_behind told (record e { stack = drop 1 e.stack })) (end_behind-origins told (record e { stack = drop 1 e.stack }) popped),
-        all-append (PacketReplies schema theirs) (reply_packets told e (return.dispatch_answered entry) (return.return_answer schema e row entry vs)) (reply_packets lost (end_behind told e) (resolver_answered (answering.resolver_in entry)) (answer.Fault ResolverDestroyed))
+        end_after-origins lost (end_after told (record e { stack = drop 1 e.stack })) (end_after-origins told (record e { stack = drop 1 e.stack }) popped),
+        all-append (PacketReplies schema theirs) (reply_packets told e (return.dispatch_answered entry) (return.return_answer schema e row entry vs)) (reply_packets lost (end_after told e) (resolver_answered (answering.resolver_in entry)) (answer.Fault ResolverDestroyed))
             (reply-packets told e (return.dispatch_answered entry) (return.return_answer schema e row entry vs) k o (λ w. answered-replied top.0.row (or-left (is_sync_row top.0.row) (makes_promise top.0.row) (ap is_sync_row (sym (same_Some row top.0.row (sym on_top.found ∙ top.0.found))) ∙ and-right (is_open e.state) (is_sync_row row) (sym t ∙ w)))))
-            (reply-packets lost (end_behind told e) (resolver_answered (answering.resolver_in entry)) (answer.Fault ResolverDestroyed) (end_behind-origins told e k) o (λ w. promise-reply top.0.row (top.0.resolves (and-right (is_open e.state) entry.resolves (sym l ∙ w))))),
+            (reply-packets lost (end_after told e) (resolver_answered (answering.resolver_in entry)) (answer.Fault ResolverDestroyed) (end_after-origins told e k) o (λ w. promise-reply top.0.row (top.0.resolves (and-right (is_open e.state) entry.resolves (sym l ∙ w))))),
       )
   first-origins {e} (parts.resumes wait row on_top found) k = (record { entries = all-drop (EntryOrigin schema theirs) e.stack k.entries; names = k.names; arrived = k.arrived; outbox = k.outbox }, tt)
 
@@ -303,7 +303,7 @@ module _ (schema : Schema) (theirs : List Note) where
   later-origins {e} (parts.lets_go name r now is o) k =
       let h : ResolverOrigin schema theirs r = held-origin name e.names r k.names is in (
         record { entries = k.entries; names = all-filter (NamingOrigin schema theirs) (λ naming. not (has_name name naming)) e.names k.names; arrived = k.arrived; outbox = tt },
-        behind_outbox-replies e (reply_packet (resolver_answered r) (answer.Fault ResolverDestroyed)) k (reply-replies (resolver_answered r) (answer.Fault ResolverDestroyed) h.origin (promise-reply h.origin.row h.promised)),
+        after_outbox-replies e (reply_packet (resolver_answered r) (answer.Fault ResolverDestroyed)) k (reply-replies (resolver_answered r) (answer.Fault ResolverDestroyed) h.origin (promise-reply h.origin.row h.promised)),
       )
   later-origins {e} (parts.names more a) k = (record { entries = k.entries; names = all-append (NamingOrigin schema theirs) e.names more k.names (actors-origin more a); arrived = k.arrived; outbox = k.outbox }, tt)
   later-origins {e} (parts.releases seq closed) k = (record { entries = released-origin seq e.stack k.entries; names = k.names; arrived = k.arrived; outbox = k.outbox }, tt)
@@ -326,7 +326,7 @@ module _ (schema : Schema) (theirs : List Note) where
   pub delivery-origins : {packet : Packet} {q : Phase} {e f : End} {ws : List What} {ps : List Packet} → DeliveryPart schema packet e ws ps f q → PacketOrigin schema theirs packet → HasOrigins schema theirs e → Both f ps
   delivery-origins {e} (parts.gets_request m row vs body found none) new k = (counted-origins e row m new k, tt)
   delivery-origins {e} (parts.replaces m row vs old sync level replies body found rep is) new k = (
-    end_behind-origins replies (delivery.counted row (delivery.item_of row m) e) (counted-origins e row m new k),
+    end_after-origins replies (delivery.counted row (delivery.item_of row m) e) (counted-origins e row m new k),
     reply-packets replies e (request_answered old) (answer.Fault ResolverDestroyed) k (old-origin e row m old sync level k rep) (λ w. promise-reply (old-origin e row m old sync level k rep).row (ap makes_promise (old-row e row m old sync level k found rep) ∙ (sym is ∙ w))),
   )
   delivery-origins {e} (parts.gets_answer m row a body found is) new k = (record { entries = answered-origin a e.stack k.entries; names = k.names; arrived = k.arrived; outbox = k.outbox }, tt)

@@ -33,7 +33,7 @@ use Rattle.nesting_core.specs.Answers.{awaited, with_answer}
 use Rattle.nesting_core.specs.Frames.{head_of, is_unanswered}
 use Rattle.pending_queue.specs.declared.item.Item.{Item}
 use Rattle.pending_queue.specs.declared.item.Item.TheVariants as item
-use Rattle.pending_queue.specs.Holding.{is_free, without_first}
+use Rattle.pending_queue.specs.DeferralContext.{is_free, without_first}
 use Rattle.promise_table.specs.declared.promise.Outcome.{Outcome}
 use Rattle.promise_table.specs.declared.promise.Outcome.TheVariants.{Resolved, Rejected}
 use Rattle.ipdl_base.specs.declared.kinds.Reason.TheVariants.{ActorDestroyed, ChannelClosed, ResolverDestroyed}
@@ -46,7 +46,8 @@ use Rattle.channel_model.specs.Events.{Answering, handled, kept}
 use Rattle.channel_model.specs.Falls as fall
 use Rattle.nesting_core.specs.Top.{top_of}
 use Rattle.pending_queue.specs.Compression.{staying}
-use Rattle.channel_model.specs.Numbers.{top_id, makes_promise, counting, is_sync_row}
+use Rattle.ipdl_base.specs.Sides.{top_id}
+use Rattle.channel_model.specs.Numbers.{makes_promise, counting, is_sync_row}
 use Rattle.channel_model.specs.Outputs.{is_open, body_of, request_answered, resolver_answered}
 use Rattle.channel_model.specs.Returns as return
 use Rattle.channel_model.specs.Sends as send
@@ -57,13 +58,13 @@ use Rattle.channel_model.proofs.Known.{all-append}
 use Rattle.channel_model.proofs.Sublists.{all-sublist, without_first-sublist, staying-sublist}
 use Rattle.channel_model.specs.Phases.{Phase}
 use Rattle.channel_model.specs.Parts as parts
-use Rattle.channel_model.specs.Parts.{FirstPart, LaterPart, DeliveryPart, IsRefusal, IsRenaming, reply_lines, fall_lines, farewell_item, farewell_line, end_behind, left_end}
+use Rattle.channel_model.specs.Parts.{FirstPart, LaterPart, DeliveryPart, IsRefusal, IsRenaming, reply_lines, fall_lines, farewell_item, farewell_line, end_after, left_end}
 use Rattle.channel_laws.specs.Tested.{after_whats}
 use Rattle.channel_laws.specs.Outlines.{Ended, Over, shown, shown_entry, placeless, Outline, outline, HasOutline}
 use Rattle.channel_laws.proofs.PartLines.{EffectsHave, reply-has, falls-have, closing-has}
 use Rattle.channel_laws.proofs.Rows.{request-message}
 
--- Lines that leave the outline
+-- Lines that leave the outline unchanged
 
 pub data LeavesOutline : What → Type 0 where
   built : (id : ℤ) (protocol : ℕ) → LeavesOutline (what.Built id protocol)
@@ -216,12 +217,12 @@ failed-stack (x ∷ hs) (y ∷ es) k = by x y.frame refl (failed-stack hs es (co
     by (frame.Answered c) (Wait head None) is rec e = cc
     by (frame.Answered c) (Wait head (Some b)) is rec e = ap (map placeless) (failed-below (waits es) (frame.Answered c) hs (λ n. refl)) ∙ (ap (λ (z : CallFrame). z ∷ map placeless (failed_all (waits es) hs)) e ∙ ap (λ (zs : List CallFrame). shown (Wait head (Some b)) y.route y.number ∷ zs) rec)
 
--- lines of fails fail the waits and leave all else
+-- lines of failures fail the waits and leave all else unchanged
 fails-outline : (schema : Schema) (place : ℕ) (ns : List ℤ) (h : EndReading) → outline (after_whats schema place (map what.Fails ns) h) ≡ outline (record h { stack = failed_all ns h.stack })
 fails-outline schema place [] h = refl
 fails-outline schema place (n ∷ ns) h = fails-outline schema (place + 1) ns (after_what schema place (what.Fails n) h)
 
--- constructors are counted alike
+-- constructors are counted in the same way
 
 kind-counts : (kind : Kind) (n : ℕ) → (if reading.constructs kind then n + 1 else n) ≡ counting kind n
 kind-counts Normal n = refl
@@ -233,8 +234,8 @@ made-counts schema row n found = ap (λ (r : Option MessageRow). if option_map_o
 
 -- Every part
 
--- What the delivery of a reply hangs on: the end's own request of its number is sync just where the reply is, and then
--- it is the one that is awaited.
+-- What the delivery of a reply depends on: the end's own request of its number is sync exactly where the reply is,
+-- and then it is the awaited one.
 pub record RepliesFit (schema : Schema) (packet : Packet) (e : End) (h : EndReading) : Type 0 where
   pub sync : (m : Message) (row : MessageRow) (a : Answer) → packet ≡ message m → m.body ≡ body_of a → message_of schema m.number ≡ Some row → is_sync_request h m.seq ≡ is_sync_row row
   pub awaits : (m : Message) (row : MessageRow) (a : Answer) → packet ≡ message m → m.body ≡ body_of a → message_of schema m.number ≡ Some row → is_sync_row row ≡ true → awaited (send.frames_of e) ≡ Some m.seq
@@ -243,16 +244,16 @@ pub record RepliesFit (schema : Schema) (packet : Packet) (e : End) (h : EndRead
 left-outlined : (schema : Schema) (place : ℕ) (ws : List What) (e : End) (h : EndReading) → AllByRecursion LeavesOutline ws → HasOutline e (outline h) → HasOutline e (outline (after_whats schema place ws h))
 left-outlined schema place ws e h l k = subst (HasOutline e) (sym (outline-left schema place ws h l)) k
 
-end_behind-outlined : (b : Bool) (e : End) (s : Outline) → HasOutline e s → HasOutline (end_behind b e) s
-end_behind-outlined true e s k = record { state = k.state; ended = k.ended; over = k.over; stack = k.stack; made = k.made; ordinary = k.ordinary }
-end_behind-outlined false e s k = k
+end_after-outlined : (b : Bool) (e : End) (s : Outline) → HasOutline e s → HasOutline (end_after b e) s
+end_after-outlined true e s k = record { state = k.state; ended = k.ended; over = k.over; stack = k.stack; made = k.made; ordinary = k.ordinary }
+end_after-outlined false e s k = k
 
--- what has arrived is other than before
+-- the arrived items differ from those before
 arrived-outlined : (e : End) (s : Outline) (items : List Item) → HasOutline e s → (e.state ≡ Open → AllByRecursion IsOrdinary items) → HasOutline (record e { arrived = items }) s
 arrived-outlined e s items k o = record { state = k.state; ended = k.ended; over = k.over; stack = k.stack; made = k.made; ordinary = o }
 
 left_end-outlined : (e : End) (s : Outline) → HasOutline e s → HasOutline (left_end e) s
-left_end-outlined e s k = arrived-outlined e s (without_first (is_free (take.holding_of e)) e.arrived) k (λ is. all-sublist IsOrdinary (without_first (is_free (take.holding_of e)) e.arrived) e.arrived (without_first-sublist (is_free (take.holding_of e)) e.arrived) (k.ordinary is))
+left_end-outlined e s k = arrived-outlined e s (without_first (is_free (take.deferral_context_of e)) e.arrived) k (λ is. all-sublist IsOrdinary (without_first (is_free (take.deferral_context_of e)) e.arrived) e.arrived (without_first-sublist (is_free (take.deferral_context_of e)) e.arrived) (k.ordinary is))
 
 settle-leaves : (seq : ℤ) (o : Outcome) → LeavesOutline (take.settle_line seq o)
 settle-leaves seq (Resolved vs) = resolved seq vs
@@ -262,16 +263,16 @@ ordinary-reply : (body : Body) (a : Answer) → body ≡ body_of a → is_goodby
 ordinary-reply body (answer.Ok vs) is = ap is_goodbye is
 ordinary-reply body (answer.Fault r) is = ap is_goodbye is
 
--- a farewell that is taken tells that the end has ended
+-- a farewell that is taken shows that the end has ended
 
 shut-over : {A : Type 0} (e : End) (x : Item) → take.taken_next e ≡ Some x → is_farewell x ≡ true → AllByRecursion IsOrdinary e.arrived → A
 shut-over {A} e x next last all = by (take.takes_in_state e.state && take.takes_under (top_of (send.frames_of e))) next
   where
-    inside : (items : List Item) → AllByRecursion IsOrdinary items → find (is_free (take.holding_of e)) items ≡ Some x → is_farewell x ≡ false
+    inside : (items : List Item) → AllByRecursion IsOrdinary items → find (is_free (take.deferral_context_of e)) items ≡ Some x → is_farewell x ≡ false
     inside [] all e = cc
-    inside (y ∷ ys) all found = here (is_free (take.holding_of e) y) found (inside ys all.1)
+    inside (y ∷ ys) all found = here (is_free (take.deferral_context_of e) y) found (inside ys all.1)
       where
-        here : (b : Bool) → cond b (Some y) (find (is_free (take.holding_of e)) ys) ≡ Some x → (find (is_free (take.holding_of e)) ys ≡ Some x → is_farewell x ≡ false) → is_farewell x ≡ false
+        here : (b : Bool) → cond b (Some y) (find (is_free (take.deferral_context_of e)) ys) ≡ Some x → (find (is_free (take.deferral_context_of e)) ys ≡ Some x → is_farewell x ≡ false) → is_farewell x ≡ false
         here true is rec = ap is_farewell (sym (same_Some y x is)) ∙ all.0
         here false is rec = rec is
 
@@ -353,8 +354,8 @@ module _ (schema : Schema) where
       let l : HasOutline (left_end e) (outline h) = left_end-outlined e (outline h) k in
       record { state = l.state; ended = l.ended; over = l.over; stack = ap (λ (fs : List CallFrame). frame.Dispatch (record { seq = m.seq; route = m.route; number = m.number }) ∷ fs) k.stack; made = l.made; ordinary = l.ordinary }
   first-outlined {e} place h (parts.drops m sync level row vs id replies next body found gone is) k =
-      left-outlined schema (place + 1) (reply_lines replies (request_answered m) (answer.Fault ActorDestroyed)) (end_behind replies (left_end e)) (after_what schema place (what.Drop m.seq m.route m.number id) h) (reply-has LeavesOutline outline-effects replies (request_answered m) (answer.Fault ActorDestroyed))
-      (end_behind-outlined replies (left_end e) (outline h) (left_end-outlined e (outline h) k))
+      left-outlined schema (place + 1) (reply_lines replies (request_answered m) (answer.Fault ActorDestroyed)) (end_after replies (left_end e)) (after_what schema place (what.Drop m.seq m.route m.number id) h) (reply-has LeavesOutline outline-effects replies (request_answered m) (answer.Fault ActorDestroyed))
+      (end_after-outlined replies (left_end e) (outline h) (left_end-outlined e (outline h) k))
   first-outlined {e} place h (parts.drops_unknown m sync level vs next body none) k = left_end-outlined e (outline h) k
   first-outlined {e} place h (parts.takes_reply m sync level a next body late) k = left_end-outlined e (outline h) k
   first-outlined {e} place h (parts.settles m sync level row a next body found is) k =
@@ -365,10 +366,10 @@ module _ (schema : Schema) where
       subst (HasOutline (parts.shut_end e)) (sym (shut-outline place last h)) (record { state = refl; ended = drained-ended e (outline h) last next is k; over = refl; stack = k.stack; made = k.made; ordinary = λ is. cc })
   first-outlined {e} place h (parts.returns entry row vs told lost on_top t l) k =
       left-outlined schema (place + 1) (reply_lines told (return.dispatch_answered entry) (return.return_answer schema e row entry vs) ++ reply_lines lost (resolver_answered (answering.resolver_in entry)) (answer.Fault ResolverDestroyed))
-      (end_behind lost (end_behind told (record e { stack = drop 1 e.stack }))) (after_what schema place (what.Return (head_of entry.frame).seq) h)
+      (end_after lost (end_after told (record e { stack = drop 1 e.stack }))) (after_what schema place (what.Return (head_of entry.frame).seq) h)
       (all-append LeavesOutline (reply_lines told (return.dispatch_answered entry) (return.return_answer schema e row entry vs)) (reply_lines lost (resolver_answered (answering.resolver_in entry)) (answer.Fault ResolverDestroyed))
       (reply-has LeavesOutline outline-effects told (return.dispatch_answered entry) (return.return_answer schema e row entry vs)) (reply-has LeavesOutline outline-effects lost (resolver_answered (answering.resolver_in entry)) (answer.Fault ResolverDestroyed)))
-      (end_behind-outlined lost (end_behind told (record e { stack = drop 1 e.stack })) (outline (after_what schema place (what.Return (head_of entry.frame).seq) h)) (end_behind-outlined told (record e { stack = drop 1 e.stack }) (outline (after_what schema place (what.Return (head_of entry.frame).seq) h))
+      (end_after-outlined lost (end_after told (record e { stack = drop 1 e.stack })) (outline (after_what schema place (what.Return (head_of entry.frame).seq) h)) (end_after-outlined told (record e { stack = drop 1 e.stack }) (outline (after_what schema place (what.Return (head_of entry.frame).seq) h))
       (record { state = k.state; ended = k.ended; over = k.over; stack = popped-stack h e k.stack; made = k.made; ordinary = k.ordinary })))
   first-outlined {e} place h (parts.resumes wait row on_top found) k =
       subst (HasOutline (record e { stack = drop 1 e.stack })) (sym (resume-outline place wait.seq (received schema e.actors row wait.given) h))
@@ -411,9 +412,9 @@ module _ (schema : Schema) where
   pub delivery-outlined : {packet : Packet} {q : Phase} {e f : End} {ws : List What} {ps : List Packet} (place : ℕ) (h : EndReading) → DeliveryPart schema packet e ws ps f q → is_open e.state ≡ true → RepliesFit schema packet e h → HasOutline e (outline h) → HasOutline f (outline (after_whats schema place ws h))
   delivery-outlined {e} place h (parts.gets_request m row vs body found none) o fit k = counted-outlined e (outline h) row m vs body k
   delivery-outlined {e} place h (parts.replaces m row vs old sync level replies body found rep is) o fit k =
-      left-outlined schema (place + 1) (what.Replaced old.seq ∷ reply_lines replies (request_answered old) (answer.Fault ResolverDestroyed)) (end_behind replies (delivery.counted row (delivery.item_of row m) e)) (after_what schema place (what.DeliverRequest m.seq) h)
+      left-outlined schema (place + 1) (what.Replaced old.seq ∷ reply_lines replies (request_answered old) (answer.Fault ResolverDestroyed)) (end_after replies (delivery.counted row (delivery.item_of row m) e)) (after_what schema place (what.DeliverRequest m.seq) h)
       (replaced old.seq, reply-has LeavesOutline outline-effects replies (request_answered old) (answer.Fault ResolverDestroyed))
-      (end_behind-outlined replies (delivery.counted row (delivery.item_of row m) e) (outline h) (counted-outlined e (outline h) row m vs body k))
+      (end_after-outlined replies (delivery.counted row (delivery.item_of row m) e) (outline h) (counted-outlined e (outline h) row m vs body k))
   delivery-outlined {e} place h (parts.gets_answer m row a body found is) o fit k =
       subst (HasOutline (delivery.answers_wait a e)) (sym (replying-outline m.seq h true (fit.sync m row a refl body found ∙ is)))
       (record { state = k.state; ended = k.ended; over = k.over; stack = answered-stack m.seq a h.stack e.stack k.stack (fit.awaits m row a refl body found is); made = k.made; ordinary = k.ordinary })

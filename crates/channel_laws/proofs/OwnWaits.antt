@@ -1,4 +1,4 @@
--- Each part of a step keeps the waits those for sync requests of the end.
+-- Each part of a step keeps each wait one for a sync request of the end.
 use Rattle.std.proofs.Common.{◌≡◌, ℕ, zero, suc, ◌+◌, ℤ, pos, Bool, true, false, not, ◌&&◌, cond, if◌then◌else◌, int_eq, find, List, [], ◌∷◌, ◌++◌, drop, map, Option, Some, None, is_some, refl, sym, ap, subst, ◌∙◌, arith}
 use Rattle.std.specs.List.{AllByRecursion}
 use Rattle.std.specs.Option.{option_map_or, option_or}
@@ -21,7 +21,7 @@ use Rattle.channel_model.specs.Ends.{End, Packet, StackEntry}
 use Rattle.channel_model.specs.Events.{Answering, handled, kept}
 use Rattle.channel_model.specs.Numbers.{is_sync_row, request_row}
 use Rattle.channel_model.specs.Parts
-use Rattle.channel_model.specs.Parts.{FirstPart, LaterPart, DeliveryPart, end_behind, left_end}
+use Rattle.channel_model.specs.Parts.{FirstPart, LaterPart, DeliveryPart, end_after, left_end}
 use Rattle.channel_model.specs.Phases.{Phase}
 use Rattle.channel_model.specs.Sends as send
 use Rattle.channel_model.proofs.Known.{all-append, all-map}
@@ -45,7 +45,7 @@ use Rattle.channel_laws.proofs.SentAccounts.{requests-append}
 
 -- Requests
 
--- a request that was found is found behind more packets
+-- a request that was found is still found after more packets
 sync-grows : (own next : EndReading) (more : List SentPacket) (n : ℤ) → next.sent ≡ own.sent ++ more → is_sync_request own n ≡ true → is_sync_request next n ≡ true
 sync-grows own next more n is h =
     ap (λ (sent : List SentPacket). option_map_or (λ (r : Request). r.sync) (request_of sent n) false) is
@@ -177,9 +177,9 @@ module _ (own : EndReading) where
   failed-own [] h = tt
   failed-own (x ∷ xs) h = (failed-one x x.frame refl h.0, failed-own xs h.1)
 
-  behind-own : (b : Bool) (e : End) → Own e.stack → Own (end_behind b e).stack
-  behind-own true e h = h
-  behind-own false e h = h
+  following-own : (b : Bool) (e : End) → Own e.stack → Own (end_after b e).stack
+  following-own true e h = h
+  following-own false e h = h
 
   without-own : (by : Answering) (e : End) → Own e.stack → Own (answering.without_resolver by e).stack
   without-own (handled seq) e h = released-own seq e.stack h
@@ -188,8 +188,8 @@ module _ (own : EndReading) where
 -- Parts
 
 module _ (schema : Schema) where
-  behind-lines : (place : ℕ) (ws : List What) (own : EndReading) (f : End) → AllByRecursion (IsOwnWait own) f.stack → OneWays own.sent → WaitsAreOwn f (after_whats schema place ws own)
-  behind-lines place ws own f waits requests =
+  following-lines : (place : ℕ) (ws : List What) (own : EndReading) (f : End) → AllByRecursion (IsOwnWait own) f.stack → OneWays own.sent → WaitsAreOwn f (after_whats schema place ws own)
+  following-lines place ws own f waits requests =
       let g = grows schema place ws own in
       record { waits = waits-grow own (after_whats schema place ws own) g.0 f.stack g.1 waits; requests = lines-ways schema place ws own requests }
 
@@ -197,29 +197,29 @@ module _ (schema : Schema) where
       → AllByRecursion (IsOwnWait (after_what schema place (if b then what.Call m.seq m.transaction m.route m.number vs else what.Send m.seq m.route m.number vs) own)) (cond b (send.wait_for row m ∷ e.stack) e.stack)
   sent-own place e own row route vs found h k m seq number true sync =
       let w : What = what.Call m.seq m.transaction m.route m.number vs in
-      ((λ wait. call-found schema place e own row route vs found sync h m seq number), (behind-lines place (w ∷ []) own e k.waits k.requests).waits)
-  sent-own place e own row route vs found h k m seq number false sync = (behind-lines place (what.Send m.seq m.route m.number vs ∷ []) own e k.waits k.requests).waits
+      ((λ wait. call-found schema place e own row route vs found sync h m seq number), (following-lines place (w ∷ []) own e k.waits k.requests).waits)
+  sent-own place e own row route vs found h k m seq number false sync = (following-lines place (what.Send m.seq m.route m.number vs ∷ []) own e k.waits k.requests).waits
 
   pub first-waits : {e f : End} {ws : List What} {ps : List Packet} {q : Phase} (place : ℕ) (own : EndReading) → FirstPart schema e ws ps f q → PromisesAreRead e own → WaitsAreOwn e own → WaitsAreOwn f (after_whats schema place ws own)
-  first-waits {e} {f} {ws} place own (Parts.refuses w is) h k = behind-lines place ws own f k.waits k.requests
-  first-waits {e} {f} {ws} place own (Parts.renames w is) h k = behind-lines place ws own f k.waits k.requests
-  first-waits {e} {f} {ws} place own (Parts.flushes o) h k = behind-lines place ws own f k.waits k.requests
+  first-waits {e} {f} {ws} place own (Parts.refuses w is) h k = following-lines place ws own f k.waits k.requests
+  first-waits {e} {f} {ws} place own (Parts.renames w is) h k = following-lines place ws own f k.waits k.requests
+  first-waits {e} {f} {ws} place own (Parts.flushes o) h k = following-lines place ws own f k.waits k.requests
   first-waits {e} {f} {ws} place own (Parts.sends row route vs name sent) h k =
       let m : Message = send.request_of e row route vs in
       record { waits = sent-own place e own row route vs sent.found h k m refl refl (is_sync_row row) refl; requests = lines-ways schema place ws own k.requests }
-  first-waits {e} {f} {ws} place own (Parts.answers by vs r row found may ok used) h k = behind-lines place ws own f (without-own own by e k.waits) k.requests
-  first-waits {e} {f} {ws} place own (Parts.closes o waits) h k = behind-lines place ws own f k.waits k.requests
-  first-waits {e} {f} {ws} place own (Parts.dies o) h k = behind-lines place ws own f tt k.requests
-  first-waits {e} {f} {ws} place own (Parts.dies_silent o alive) h k = behind-lines place ws own f tt k.requests
-  first-waits {e} {f} {ws} place own (Parts.takes m sync level row vs next body found stays) h k = behind-lines place ws own f ((λ wait. cc), k.waits) k.requests
-  first-waits {e} {f} {ws} place own (Parts.drops m sync level row vs id replies next body found gone is) h k = behind-lines place ws own f (behind-own own replies (left_end e) k.waits) k.requests
-  first-waits {e} {f} {ws} place own (Parts.drops_unknown m sync level vs next body found) h k = behind-lines place ws own f k.waits k.requests
-  first-waits {e} {f} {ws} place own (Parts.takes_reply m sync level a next body late) h k = behind-lines place ws own f k.waits k.requests
-  first-waits {e} {f} {ws} place own (Parts.settles m sync level row a next body found awaited) h k = behind-lines place ws own f k.waits k.requests
-  first-waits {e} {f} {ws} place own (Parts.shuts last next is) h k = behind-lines place ws own f k.waits k.requests
+  first-waits {e} {f} {ws} place own (Parts.answers by vs r row found may ok used) h k = following-lines place ws own f (without-own own by e k.waits) k.requests
+  first-waits {e} {f} {ws} place own (Parts.closes o waits) h k = following-lines place ws own f k.waits k.requests
+  first-waits {e} {f} {ws} place own (Parts.dies o) h k = following-lines place ws own f tt k.requests
+  first-waits {e} {f} {ws} place own (Parts.dies_silent o alive) h k = following-lines place ws own f tt k.requests
+  first-waits {e} {f} {ws} place own (Parts.takes m sync level row vs next body found stays) h k = following-lines place ws own f ((λ wait. cc), k.waits) k.requests
+  first-waits {e} {f} {ws} place own (Parts.drops m sync level row vs id replies next body found gone is) h k = following-lines place ws own f (following-own own replies (left_end e) k.waits) k.requests
+  first-waits {e} {f} {ws} place own (Parts.drops_unknown m sync level vs next body found) h k = following-lines place ws own f k.waits k.requests
+  first-waits {e} {f} {ws} place own (Parts.takes_reply m sync level a next body late) h k = following-lines place ws own f k.waits k.requests
+  first-waits {e} {f} {ws} place own (Parts.settles m sync level row a next body found awaited) h k = following-lines place ws own f k.waits k.requests
+  first-waits {e} {f} {ws} place own (Parts.shuts last next is) h k = following-lines place ws own f k.waits k.requests
   first-waits {e} {f} {ws} place own (Parts.returns entry row vs told_it lost may t l) h k =
-      behind-lines place ws own f (behind-own own lost (end_behind told_it (record e { stack = drop 1 e.stack })) (behind-own own told_it (record e { stack = drop 1 e.stack }) (drop-own own e.stack k.waits))) k.requests
-  first-waits {e} {f} {ws} place own (Parts.resumes wait row on_top found) h k = behind-lines place ws own f (drop-own own e.stack k.waits) k.requests
+      following-lines place ws own f (following-own own lost (end_after told_it (record e { stack = drop 1 e.stack })) (following-own own told_it (record e { stack = drop 1 e.stack }) (drop-own own e.stack k.waits))) k.requests
+  first-waits {e} {f} {ws} place own (Parts.resumes wait row on_top found) h k = following-lines place ws own f (drop-own own e.stack k.waits) k.requests
 
   later-stack : {p q : Phase} {e f : End} {ws : List What} {ps : List Packet} (own : EndReading) → LaterPart p e ws ps f q → AllByRecursion (IsOwnWait own) e.stack → AllByRecursion (IsOwnWait own) f.stack
   later-stack own (Parts.unnames name may silent) h = h
@@ -232,15 +232,15 @@ module _ (schema : Schema) where
   later-stack own (Parts.falls why is) h = h
 
   pub later-waits : {p q : Phase} {e f : End} {ws : List What} {ps : List Packet} (place : ℕ) (own : EndReading) → LaterPart p e ws ps f q → WaitsAreOwn e own → WaitsAreOwn f (after_whats schema place ws own)
-  later-waits {f = f} {ws = ws} place own part k = behind-lines place ws own f (later-stack own part k.waits) k.requests
+  later-waits {f = f} {ws = ws} place own part k = following-lines place ws own f (later-stack own part k.waits) k.requests
 
   delivery-stack : {packet : Packet} {q : Phase} {e f : End} {ws : List What} {ps : List Packet} (own : EndReading) → DeliveryPart schema packet e ws ps f q → AllByRecursion (IsOwnWait own) e.stack → AllByRecursion (IsOwnWait own) f.stack
   delivery-stack own (Parts.gets_request m row vs body found none) h = h
-  delivery-stack {e = e} own (Parts.replaces m row vs old sync level replies body found is told_it) h = behind-own own replies (delivery.counted row (delivery.item_of row m) e) h
+  delivery-stack {e = e} own (Parts.replaces m row vs old sync level replies body found is told_it) h = following-own own replies (delivery.counted row (delivery.item_of row m) e) h
   delivery-stack {e = e} own (Parts.gets_answer m row a body found is) h = answered-own own a e.stack h
   delivery-stack own (Parts.gets_reply m row a body found is) h = h
   delivery-stack {e = e} own (Parts.drains packet is) h = failed-own own e.stack h
   delivery-stack own (Parts.passes_by m is found) h = h
 
   pub delivery-waits : {packet : Packet} {q : Phase} {e f : End} {ws : List What} {ps : List Packet} (place : ℕ) (own : EndReading) → DeliveryPart schema packet e ws ps f q → WaitsAreOwn e own → WaitsAreOwn f (after_whats schema place ws own)
-  delivery-waits {f = f} {ws = ws} place own part k = behind-lines place ws own f (delivery-stack own part k.waits) k.requests
+  delivery-waits {f = f} {ws = ws} place own part k = following-lines place ws own f (delivery-stack own part k.waits) k.requests

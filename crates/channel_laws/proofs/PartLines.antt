@@ -1,4 +1,4 @@
--- Lines of replies, of rejections, of falls and of the parts that follow have what all lines of these kinds have.
+-- Lines of replies, of rejections, of falls and of later parts have each property that all lines of these kinds have.
 use Rattle.std.proofs.Common.{ℕ, ℤ, Bool, true, false, List, [], ◌∷◌, ◌++◌, filter, flat_map, map}
 use Rattle.std.specs.List.{AllByRecursion}
 use Rattle.ipdl_base.specs.declared.kinds.Destroy.{Destroy}
@@ -13,14 +13,14 @@ use Rattle.promise_table.specs.declared.promise.Promise.{Promise}
 use Rattle.promise_table.specs.Promises.{is_pending_of}
 use Rattle.channel_model.specs.Ends.{End, Packet, PromiseEntry}
 use Rattle.channel_model.specs.Falls as fall
-use Rattle.channel_model.specs.Numbers.{top_id}
+use Rattle.ipdl_base.specs.Sides.{top_id}
 use Rattle.channel_model.specs.Outputs.{AnsweredRequest}
 use Rattle.channel_model.specs.Parts as parts
 use Rattle.channel_model.specs.Parts.{LaterPart, LaterParts, reply_lines, fall_lines}
 use Rattle.channel_model.specs.Phases.{Phase}
 use Rattle.channel_model.proofs.Known.{all-append}
 
--- lines, each of one of a list, or each few of one
+-- lines made from a list, one or several for each element
 pub mapped-lines : {A : Type 0} (P : What → Type 0) (f : A → What) (xs : List A) → ((x : A) → P (f x)) → AllByRecursion P (map f xs)
 mapped-lines P f [] h = tt
 mapped-lines P f (x ∷ xs) h = (h x, mapped-lines P f xs h)
@@ -48,7 +48,7 @@ module _ (P : What → Type 0) (have : FallsHave P) where
   closing-has why e =
       all-append P (parts.abandoned_lines e) (fall_lines top_id (λ id. why) (parts.abandoned_end e)) (rejections-have (λ p. true) ChannelClosed e.promises) (falls-have top_id (λ id. why) (parts.abandoned_end e))
 
--- So have those of actors that are built, and of answers.
+-- So have the lines of actors that are built, and of answers.
 pub record EffectsHave (P : What → Type 0) : Type 0 where
   pub built : (id : ℤ) (protocol : ℕ) → P (what.Built id protocol)
   pub ok : (n : ℤ) (vs : Values) → P (what.AnswerOk n vs)

@@ -21,7 +21,7 @@ use Rattle.ipdl_base.specs.Signatures.{params_of}
 use Rattle.nesting_core.specs.Top.{top_of}
 use Rattle.pending_queue.specs.declared.item.Item.{Item}
 use Rattle.pending_queue.specs.declared.item.Item.TheVariants as item
-use Rattle.pending_queue.specs.Holding.{is_free}
+use Rattle.pending_queue.specs.DeferralContext.{is_free}
 use Rattle.history_reading.specs.EndReading.{EndReading, lives, own_request}
 use Rattle.history_reading.specs.Reading.{Reading, end_reading_of, other_of, after, read}
 use Rattle.history_reading.specs.declared.law.Law.TheVariants as law
@@ -31,7 +31,7 @@ use Rattle.history_reading.specs.Prefix.{prefix_line, was_sent, was_sent_with, i
 use Rattle.history_reading.specs.SentPacket as told
 use Rattle.channel_model.specs.Ends.{End, World, Packet, end_of, link_to}
 use Rattle.channel_model.specs.Events.{Event}
-use Rattle.channel_model.specs.Numbers.{other}
+use Rattle.ipdl_base.specs.Sides.{other}
 use Rattle.channel_model.specs.Outputs.{Output, is_open}
 use Rattle.channel_model.specs.Phases.{Phase}
 use Rattle.channel_model.specs.Sends as send
@@ -57,17 +57,17 @@ use Rattle.channel_laws.proofs.Runs.{IsReached, EveryMoveKeeps, ends-pass, every
 use Rattle.channel_laws.proofs.Taken.{ReadExchanges, exchanges-keep}
 use Rattle.channel_laws.proofs.TakingLines.{takes_nothing, TakesPass, own-pass, delivery-pass}
 use Rattle.channel_laws.proofs.Growing.{own-request}
-use Rattle.channel_laws.proofs.Holding.{law_at, holds-in-runs}
+use Rattle.channel_laws.proofs.DeferralContext.{law_at, holds-in-runs}
 use Rattle.channel_laws.proofs.MissingAlike.{values_are_read_alike}
 use Rattle.channel_laws.proofs.NextPackets.{move-next}
 use Rattle.channel_laws.proofs.ReadAlike.{alike}
 use Rattle.channel_laws.proofs.Reached.{actors-reached, noted-reached, protocols-reached}
 use Rattle.channel_laws.proofs.SameValues.{values-same}
 
--- What is taken was sent, as far as lines tell.
+-- What is taken was sent, by the lines.
 
--- a request that is taken or dropped is the other end's request of its number, to this actor and of this message; where
--- it is taken, with its values, in which dead actors are null
+-- a request that is taken or dropped is the other end's request of its number, to this actor and of this message; a
+-- request that is taken has its values, with null for dead actors
 abbrev sent_line : Schema → EndReading → EndReading → What → Bool
 sent_line schema own others (what.Take n route number values) = was_sent_with schema own others n route number values
 sent_line schema own others (what.Drop n route number id) = was_sent others n route number
@@ -92,7 +92,7 @@ pub all-taken : (P : Item → Type 0) (e : End) (x : Item) → taken_next e ≡ 
 all-taken P e x next h = by (take.takes_in_state e.state && take.takes_under (top_of (send.frames_of e))) next
   where
     by : (b : Bool) → cond b (take.first_free e) None ≡ Some x → P x
-    by true is = all-found P (is_free (take.holding_of e)) e.arrived x h is
+    by true is = all-found P (is_free (take.deferral_context_of e)) e.arrived x h is
     by false is = cc
 
 for-same : (route : ℤ) (number : ℕ) (r : told.Request) → r.route ≡ route → r.number ≡ number → is_for route number r ≡ true
@@ -137,7 +137,7 @@ module _ (schema : Schema) (sound : IsSound schema) where
     takes_reply = λ m sync level a next body. refl;
   }
 
-  -- The law of prefixes: what is delivered is next, what is taken is there, and is as it was sent
+  -- The law of prefixes: what is delivered is the next packet, and what is taken has arrived and is as it was sent
 
   line-is : (own others : EndReading) (w : What) → next_line own others w ≡ true → there_line own others w ≡ true → sent_line schema own others w ≡ true → prefix_line schema own others w ≡ true
   line-is own others (what.DeliverRequest n) a b c = a
@@ -149,12 +149,12 @@ module _ (schema : Schema) (sound : IsSound schema) where
   line-is own others (what.TakeReply n) a b c = b
   line-is own others _ a b c = refl
 
-  lines-are : (r : Reading) (lines behind : List Line) → LinesPass schema (test_at next_line) r lines behind → LinesPass schema (test_at there_line) r lines behind → LinesPass schema (test_at (sent_line schema)) r lines behind → LinesPass schema (law_at law.Prefix schema) r lines behind
+  lines-are : (r : Reading) (lines following : List Line) → LinesPass schema (test_at next_line) r lines following → LinesPass schema (test_at there_line) r lines following → LinesPass schema (test_at (sent_line schema)) r lines following → LinesPass schema (law_at law.Prefix schema) r lines following
   unfolding moment_test
-  lines-are r [] behind a b c = tt
-  lines-are r (l ∷ ls) behind a b c = (
+  lines-are r [] following a b c = tt
+  lines-are r (l ∷ ls) following a b c = (
     both (moment_before law.Prefix schema r l.what) (prefix_line schema (end_reading_of l.side r) (other_of l.side r) l.what) (moment (is_effect l.what)) (line-is (end_reading_of l.side r) (other_of l.side r) l.what a.0 b.0 c.0),
-    lines-are (after schema r l) ls behind a.1 b.1 c.1,
+    lines-are (after schema r l) ls following a.1 b.1 c.1,
   )
     where
       both : (x y : Bool) → x ≡ true → y ≡ true → x && y ≡ true
@@ -188,10 +188,10 @@ module _ (schema : Schema) (sound : IsSound schema) where
       let there = exchanges-keep schema sound move w r output m k in
       record {
         kept = there.kept;
-        passes = λ behind. lines-are r output.lines behind
-            (ends-pass schema next_line move.side move.event w r output behind m.nested m.ends (move-next schema r.lines (end_of move.side w) (end_of (other move.side) w) (end_reading_of move.side r) (other_of move.side r) (link_to move.side w) (link_to (other move.side) w) move.event output m.ends))
-            (there.passes behind)
-            (ends-pass schema (sent_line schema) move.side move.event w r output behind m.nested m.ends (move-as-sent move.side w r move.event output m.nested m.reached m.ends));
+        passes = λ following. lines-are r output.lines following
+            (ends-pass schema next_line move.side move.event w r output following m.nested m.ends (move-next schema r.lines (end_of move.side w) (end_of (other move.side) w) (end_reading_of move.side r) (other_of move.side r) (link_to move.side w) (link_to (other move.side) w) move.event output m.ends))
+            (there.passes following)
+            (ends-pass schema (sent_line schema) move.side move.event w r output following m.nested m.ends (move-as-sent move.side w r move.event output m.nested m.reached m.ends));
       }
 
 pub histories_obey_prefix : HistoriesObeyPrefix

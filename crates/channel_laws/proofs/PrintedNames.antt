@@ -1,4 +1,5 @@
--- Each line of a legal history names what its text asks for: what an end keeps of numbers is noted by its lines.
+-- Whatever the text of a line of a legal history looks up is there: the numbers that an end keeps are noted by its
+-- lines.
 use Rattle.std.proofs.Common.{◌≡◌, ◌==◌, ℕ, ◌/◌, ℤ, Bool, true, false, ◌&&◌, ◌||◌, if◌then◌else◌, int_eq, List, [], ◌∷◌, ◌++◌, map, Option, Some, None, is_some, option_and_then, refl, sym, ap, subst, ◌∙◌, append_assoc}
 use Rattle.std.specs.List.{AllByRecursion, slice_get}
 use Rattle.std.specs.Option.{option_map_or}
@@ -29,7 +30,7 @@ use Rattle.channel_model.specs.Parts.{OwnParts}
 use Rattle.channel_model.specs.Runs.{RunState, passed_by, happens, run, history_of}
 use Rattle.channel_model.specs.StepLaws.{IsStepOfParts, IsMadeOf}
 use Rattle.channel_model.specs.Steps.{step}
-use Rattle.channel_model.proofs.Known.{all-append, all-before, all-behind, all-map}
+use Rattle.channel_model.proofs.Known.{all-append, all-before, all-following, all-map}
 use Rattle.channel_model.proofs.StepParts.{steps_are_made_of_parts}
 use Rattle.channel_laws.specs.NestedWorlds.{IsNestedWorld}
 use Rattle.channel_laws.specs.PrintedNames.{is_printable_message, is_noted_message, finds_names, LinesNameWhatIsPrinted}
@@ -79,15 +80,15 @@ gives-here side (what.Call n transaction route number vs) rest = here-noted side
 gives-here side (what.Take n route number vs) rest = here-noted side (what.Take n route number vs) rest n number refl
 gives-here side _ rest = tt
 
-gives-all : (side : Side) (ws : List What) (behind : List Line) → AllByRecursion (Gives (IsNoted side (map (line_at side) ws ++ behind))) ws
-gives-all side [] behind = tt
-gives-all side (w ∷ ws) behind = (
-  gives-here side w (map (line_at side) ws ++ behind),
-  all-map (Gives (IsNoted side (map (line_at side) ws ++ behind))) (Gives (IsNoted side (line_at side w ∷ map (line_at side) ws ++ behind))) ws
-      (λ v h. gives-grow (IsNoted side (map (line_at side) ws ++ behind)) (IsNoted side (line_at side w ∷ map (line_at side) ws ++ behind)) (noted-later side (line_at side w ∷ []) (map (line_at side) ws ++ behind)) v h) (gives-all side ws behind),
+gives-all : (side : Side) (ws : List What) (following : List Line) → AllByRecursion (Gives (IsNoted side (map (line_at side) ws ++ following))) ws
+gives-all side [] following = tt
+gives-all side (w ∷ ws) following = (
+  gives-here side w (map (line_at side) ws ++ following),
+  all-map (Gives (IsNoted side (map (line_at side) ws ++ following))) (Gives (IsNoted side (line_at side w ∷ map (line_at side) ws ++ following))) ws
+      (λ v h. gives-grow (IsNoted side (map (line_at side) ws ++ following)) (IsNoted side (line_at side w ∷ map (line_at side) ws ++ following)) (noted-later side (line_at side w ∷ []) (map (line_at side) ws ++ following)) v h) (gives-all side ws following),
 )
 
--- Lines that ask for what is there
+-- Lines that look up what is there
 
 module _ (schema : Schema) where
   abbrev LinesAsk : List Line → List Line → Type 0
@@ -106,13 +107,13 @@ module _ (schema : Schema) where
         (all-map (Asks schema (IsNoted side before)) (Asks schema (IsNoted side (before ++ line_at side w ∷ []))) ws (λ v k. asks-grow schema (IsNoted side before) (IsNoted side (before ++ line_at side w ∷ [])) (noted-more side before (line_at side w ∷ [])) v k) h.1),
   )
 
-  asked-at : (front before : List Line) (line : Line) (behind : List Line) → LinesAsk front (before ++ line ∷ behind) → Asks schema (IsNoted line.side (front ++ before)) line.what
-  asked-at front [] line behind h = subst (λ (b : List Line). Asks schema (IsNoted line.side b) line.what) (sym (append-nil front)) h.0
-  asked-at front (x ∷ before) line behind h = subst (λ (b : List Line). Asks schema (IsNoted line.side b) line.what) (append_assoc front (x ∷ []) before) (asked-at (front ++ x ∷ []) before line behind h.1)
+  asked-at : (front before : List Line) (line : Line) (following : List Line) → LinesAsk front (before ++ line ∷ following) → Asks schema (IsNoted line.side (front ++ before)) line.what
+  asked-at front [] line following h = subst (λ (b : List Line). Asks schema (IsNoted line.side b) line.what) (sym (append-nil front)) h.0
+  asked-at front (x ∷ before) line following h = subst (λ (b : List Line). Asks schema (IsNoted line.side b) line.what) (append_assoc front (x ∷ []) before) (asked-at (front ++ x ∷ []) before line following h.1)
 
   -- Steps
 
-  -- the lines of a step ask for what is noted before them, and behind them all that the end keeps is noted
+  -- the lines of a step look up only what is noted before them, and after them all that the end keeps is noted
   record StepAsks (side : Side) (before : List Line) (output : Output) : Type 0 where
     pub asks : LinesAsk before output.lines
     pub keeps : KeepsNumbers (IsNoted side (before ++ output.lines)) output.end
@@ -211,7 +212,7 @@ module _ (schema : Schema) where
             cc
         by (Some protocol) e = ap (λ (o : Option ProtocolRow). is_some o && is_request_number schema number) e ∙ is
 
-    -- a line names a message of the schema, where it names one
+    -- if a line names a message, it is in the schema
     abbrev NamesMessage : What → Type 0
     NamesMessage (what.Send n route number vs) = is_printable_message schema number ≡ true
     NamesMessage (what.Call n transaction route number vs) = is_printable_message schema number ≡ true
@@ -228,9 +229,9 @@ module _ (schema : Schema) where
     readable-names stack (what.Drop n route number id) is = printable number is
     readable-names stack _ is = tt
 
-    lines-name : (r : Reading) (lines behind : List Line) → LinesPass schema (test_at (λ own other said. is_readable_what schema own.stack said)) r lines behind → AllByRecursion (λ line. NamesMessage line.what) lines
-    lines-name r [] behind p = tt
-    lines-name r (l ∷ ls) behind p = (readable-names (end_reading_of l.side r).stack l.what p.0, lines-name (after schema r l) ls behind p.1)
+    lines-name : (r : Reading) (lines following : List Line) → LinesPass schema (test_at (λ own other said. is_readable_what schema own.stack said)) r lines following → AllByRecursion (λ line. NamesMessage line.what) lines
+    lines-name r [] following p = tt
+    lines-name r (l ∷ ls) following p = (readable-names (end_reading_of l.side r).stack l.what p.0, lines-name (after schema r l) ls following p.1)
 
     abbrev numbered : ℤ → ℤ × ℕ → Option ℕ
     numbered n g = if int_eq g.0 n then Some g.1 else None
@@ -277,10 +278,10 @@ module _ (schema : Schema) where
     finds side before _ all is a = refl
 
 pub lines_name_what_is_printed : LinesNameWhatIsPrinted
-lines_name_what_is_printed schema sound top moves before line behind whole =
-    let named : AllByRecursion (λ l. NamesMessage schema sound l.what) (before ++ line ∷ behind) =
+lines_name_what_is_printed schema sound top moves before line following whole =
+    let named : AllByRecursion (λ l. NamesMessage schema sound l.what) (before ++ line ∷ following) =
     subst (AllByRecursion (λ l. NamesMessage schema sound l.what)) whole (lines-name schema sound opening_reading (history_of schema top moves) [] ((run-reads schema sound top moves).passes [])) in
     finds schema sound line.side before line.what
-    (all-before (λ l. NamesMessage schema sound l.what) before (line ∷ behind) named)
-    (all-behind (λ l. NamesMessage schema sound l.what) before (line ∷ behind) named).0
-    (asked-at schema [] before line behind (subst (LinesAsk schema []) whole (history-asks schema sound top moves)))
+    (all-before (λ l. NamesMessage schema sound l.what) before (line ∷ following) named)
+    (all-following (λ l. NamesMessage schema sound l.what) before (line ∷ following) named).0
+    (asked-at schema [] before line following (subst (LinesAsk schema []) whole (history-asks schema sound top moves)))

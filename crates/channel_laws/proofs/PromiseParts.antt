@@ -35,10 +35,11 @@ use Rattle.channel_model.specs.Deliveries as delivery
 use Rattle.channel_model.specs.Ends.{End, Packet, message, mark, PromiseEntry}
 use Rattle.channel_model.specs.Events.{Answering, handled, kept}
 use Rattle.channel_model.specs.Falls as fall
-use Rattle.channel_model.specs.Numbers.{top_id, is_sync_row, makes_promise, request_row}
+use Rattle.ipdl_base.specs.Sides.{top_id}
+use Rattle.channel_model.specs.Numbers.{is_sync_row, makes_promise, request_row}
 use Rattle.channel_model.specs.Outputs.{AnsweredRequest, request_answered, resolver_answered}
 use Rattle.channel_model.specs.Parts
-use Rattle.channel_model.specs.Parts.{FirstPart, LaterPart, DeliveryPart, IsRefusal, IsRenaming, end_behind, reply_lines, fall_lines, falling, farewell_item, farewell_line, shut_line, left_end, promise_for, reply_outcome}
+use Rattle.channel_model.specs.Parts.{FirstPart, LaterPart, DeliveryPart, IsRefusal, IsRenaming, end_after, reply_lines, fall_lines, falling, farewell_item, farewell_line, shut_line, left_end, promise_for, reply_outcome}
 use Rattle.channel_model.specs.Phases.{Phase}
 use Rattle.channel_model.specs.Requests.{IsSeqOf, promise_seq}
 use Rattle.channel_model.specs.Returns as return
@@ -88,7 +89,7 @@ one-read schema place w own (resolved n vs) = refl
 one-read schema place w own (rejected n reason) = refl
 one-read schema place w own (fell id why) = same-requests (promise_reading own) (requests_of own.sent) refl
 
--- effects settle what their lines say, and leave the requests
+-- effects settle what their lines show, and leave the requests unchanged
 pub effects-read : (schema : Schema) (place : ℕ) (ws : List What) (own : EndReading) → AreEffectLines ws → promise_reading (after_whats schema place ws own) ≡ record (promise_reading own) { settled = own.settled ++ settled_by_lines ws }
 effects-read schema place [] own effects = same-requests (promise_reading own) (requests_of own.sent) refl
 effects-read schema place (w ∷ ws) own effects =
@@ -224,16 +225,16 @@ same-kept f e own same h =
     (subst (λ (ps : List PromiseEntry). HasPromises e.side ps f.sent (promise_reading own)) (sym same.1)
     (subst (λ (n : ℕ). HasPromises e.side e.promises n (promise_reading own)) (sym same.2) h))
 
-behind-same : (b : Bool) (e : End) → SamePromises (end_behind b e) e
-behind-same true e = (refl, refl, refl)
-behind-same false e = (refl, refl, refl)
+following-same : (b : Bool) (e : End) → SamePromises (end_after b e) e
+following-same true e = (refl, refl, refl)
+following-same false e = (refl, refl, refl)
 
 without-same : (by : Answering) (e : End) → SamePromises (answering.without_resolver by e) e
 without-same (handled seq) e = (refl, refl, refl)
 without-same (kept name number) e = (refl, refl, refl)
 
-behind-kept : (b : Bool) (e : End) (own : EndReading) → PromisesAreRead e own → PromisesAreRead (end_behind b e) own
-behind-kept b e own h = same-kept (end_behind b e) e own (behind-same b e) h
+following-kept : (b : Bool) (e : End) (own : EndReading) → PromisesAreRead e own → PromisesAreRead (end_after b e) own
+following-kept b e own h = same-kept (end_after b e) e own (following-same b e) h
 
 -- Parts
 
@@ -304,9 +305,9 @@ module _ (schema : Schema) where
   first-keeps-promises {e} place own (Parts.dies_silent o alive) h = read-kept e own (after_what schema place what.Die own) (dying-read schema place own) h
   first-keeps-promises place own (Parts.takes m sync level row vs next body found stays) h = h
   first-keeps-promises {e} place own (Parts.drops m sync level row vs id replies next body found gone is) h =
-      effects-kept (place + 1) (reply_lines replies (request_answered m) (answer.Fault ActorDestroyed)) (end_behind replies (left_end e)) (after_what schema place (what.Drop m.seq m.route m.number id) own)
+      effects-kept (place + 1) (reply_lines replies (request_answered m) (answer.Fault ActorDestroyed)) (end_after replies (left_end e)) (after_what schema place (what.Drop m.seq m.route m.number id) own)
       (reply-effects replies (request_answered m) (answer.Fault ActorDestroyed)) (replies-settle replies (request_answered m) (answer.Fault ActorDestroyed))
-      (behind-kept replies (left_end e) own h)
+      (following-kept replies (left_end e) own h)
   first-keeps-promises place own (Parts.drops_unknown m sync level vs next body found) h = h
   first-keeps-promises place own (Parts.takes_reply m sync level a next body late) h = h
   first-keeps-promises {e} place own (Parts.settles m sync level row a next body found awaited) h =
@@ -321,10 +322,10 @@ module _ (schema : Schema) where
       let ls : List What = reply_lines told (return.dispatch_answered entry) (return.return_answer schema e row entry vs) in
       let ms : List What = reply_lines lost (resolver_answered (answering.resolver_in entry)) (answer.Fault ResolverDestroyed) in
       let popped : End = record e { stack = drop 1 e.stack } in
-      effects-kept (place + 1) (ls ++ ms) (end_behind lost (end_behind told popped)) (after_what schema place (what.Return (head_of entry.frame).seq) own)
+      effects-kept (place + 1) (ls ++ ms) (end_after lost (end_after told popped)) (after_what schema place (what.Return (head_of entry.frame).seq) own)
       (all-append IsEffectLine ls ms (reply-effects told (return.dispatch_answered entry) (return.return_answer schema e row entry vs)) (reply-effects lost (resolver_answered (answering.resolver_in entry)) (answer.Fault ResolverDestroyed)))
       (settled-append ls ms ∙ (ap (λ (ns : List ℤ). ns ++ settled_by_lines ms) (replies-settle told (return.dispatch_answered entry) (return.return_answer schema e row entry vs)) ∙ replies-settle lost (resolver_answered (answering.resolver_in entry)) (answer.Fault ResolverDestroyed)))
-      (behind-kept lost (end_behind told popped) own (behind-kept told popped own h))
+      (following-kept lost (end_after told popped) own (following-kept told popped own h))
   first-keeps-promises {e} place own (Parts.resumes wait row on_top found) h = read-kept e own (after_what schema place (return.resume_line wait.seq (received schema e.actors row wait.given)) own) (resume-read schema place wait.seq (received schema e.actors row wait.given) own) h
 
   pub later-keeps-promises : {p q : Phase} {e f : End} {ws : List What} {ps : List Packet} (place : ℕ) (own : EndReading) → LaterPart p e ws ps f q → PromisesAreRead e own → PromisesAreRead f (after_whats schema place ws own)
@@ -347,8 +348,8 @@ module _ (schema : Schema) where
       let new : Item = delivery.item_of row m in
       let got : EndReading = after_what schema place (what.DeliverRequest m.seq) own in
       let lost : EndReading = after_what schema (place + 1) (what.Replaced old.seq) got in
-      effects-kept (place + 1 + 1) (reply_lines replies (request_answered old) (answer.Fault ResolverDestroyed)) (end_behind replies (delivery.counted row new e)) lost
-      (reply-effects replies (request_answered old) (answer.Fault ResolverDestroyed)) (replies-settle replies (request_answered old) (answer.Fault ResolverDestroyed)) (behind-kept replies (delivery.counted row new e) own h)
+      effects-kept (place + 1 + 1) (reply_lines replies (request_answered old) (answer.Fault ResolverDestroyed)) (end_after replies (delivery.counted row new e)) lost
+      (reply-effects replies (request_answered old) (answer.Fault ResolverDestroyed)) (replies-settle replies (request_answered old) (answer.Fault ResolverDestroyed)) (following-kept replies (delivery.counted row new e) own h)
   delivery-keeps-promises {e} place own (Parts.gets_answer m row a body found is) h = read-kept e own (after_what schema place (what.DeliverReply m.seq) own) (reply-read schema place m.seq own) h
   delivery-keeps-promises {e} place own (Parts.gets_reply m row a body found is) h = read-kept e own (after_what schema place (what.DeliverReply m.seq) own) (reply-read schema place m.seq own) h
   delivery-keeps-promises {e} place own (Parts.drains packet is) h =

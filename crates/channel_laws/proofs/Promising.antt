@@ -48,7 +48,7 @@ int-flip m n = by (int_eq n m) refl
 not-same : (m n : ℤ) → int_eq m n ≡ false → n ≢ m
 not-same m n is e = false≢true (sym is ∙ (Decides-int_eq m n).1 (sym e))
 
--- numbers of which each is counted once are distinct
+-- numbers that are each counted once are distinct
 pub once-distinct : (ns : List ℤ) → ((n : ℤ) → how_many (is_number n) ns ≤ 1) → AreDistinct ns
 once-distinct [] once = tt
 once-distinct (m ∷ ns) once =
@@ -57,7 +57,7 @@ once-distinct (m ∷ ns) once =
     let none : AllByRecursion (λ k. int_eq k m ≡ false) ns = none-passes (is_number m) ns (omega arith) in
     (all-map (λ k. int_eq k m ≡ false) (λ k. m ≢ k) ns (λ k is. not-same k m is) none, once-distinct ns (λ n. let all = once n in omega arith))
 
--- each number that is counted is known
+-- what is true of each number that is counted is true of the whole list
 pub all-known : (P : ℤ → Type 0) (ns : List ℤ) → ((n : ℤ) → 1 ≤ how_many (is_number n) ns → P n) → AllByRecursion P ns
 all-known P [] h = tt
 all-known P (m ∷ ns) h =
@@ -115,7 +115,7 @@ elsewhere test (entry ∷ promises) n h =
     and-false true = refl
     and-false false = refl
 
--- the number of a promise is among those of promises that pass just where it passes
+-- the number of a promise is among those of promises that pass exactly where it passes
 abbrev pub IsAmong : (PromiseEntry → Bool) → List ℤ → PromiseEntry → Type 0
 IsAmong test numbers entry = has numbers (promise_seq entry) ≡ test entry
 

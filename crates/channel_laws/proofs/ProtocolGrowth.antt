@@ -1,4 +1,4 @@
--- What has the protocols that ids stand for goes on to, when ids stand for more.
+-- What has the protocols of the ids keeps them when more ids get protocols.
 use Rattle.std.proofs.Common.{inl, inr, ℕ, ℤ, List, Some, None}
 use Rattle.std.specs.List.{AllByRecursion}
 use Rattle.actor_tree.specs.declared.actor.Actor.{Actor}

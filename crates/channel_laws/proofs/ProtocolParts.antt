@@ -1,4 +1,4 @@
--- Each part keeps that all that an end keeps and sends has the protocols that ids stand for.
+-- After each part all that an end keeps and sends has the protocols of the ids.
 use Rattle.std.proofs.Common.{◌≡◌, ◌==◌, inr, ℕ, ◌+◌, ℤ, Bool, true, false, not, ◌&&◌, ◌||◌, cond, if◌then◌else◌, int_eq, List, [], ◌∷◌, ◌++◌, drop, find, map, Option, Some, None, is_none, is_some, option_and_then, option_map, refl, sym, ap, subst, ◌∙◌}
 use Rattle.std.specs.List.{AllByRecursion}
 use Rattle.std.specs.Option.{option_map_or}
@@ -32,17 +32,18 @@ use Rattle.nesting_laws.specs.Calls.{ReplyHead}
 use Rattle.pending_queue.specs.declared.item.Item.{Item}
 use Rattle.pending_queue.specs.declared.item.Item.TheVariants as item
 use Rattle.pending_queue.specs.Compression.{is_request, is_request_of, replaced, staying}
-use Rattle.pending_queue.specs.Holding.{is_free, without_first}
+use Rattle.pending_queue.specs.DeferralContext.{is_free, without_first}
 use Rattle.channel_model.specs.Acts.{goodbye}
 use Rattle.channel_model.specs.Answers as answering
 use Rattle.channel_model.specs.Deliveries as delivery
 use Rattle.channel_model.specs.Ends.{End, Packet, message, mark, StackEntry, NameContent, actor, resolver, Naming, Resolver}
 use Rattle.channel_model.specs.Events.{Answering, handled, kept}
 use Rattle.channel_model.specs.Names.{has_name, held_by_name, is_actor}
-use Rattle.channel_model.specs.Numbers.{top_id, counting, protocol_of, is_sync_row, makes_promise, request_row, is_constructor}
+use Rattle.ipdl_base.specs.Sides.{top_id}
+use Rattle.channel_model.specs.Numbers.{counting, protocol_of, is_sync_row, makes_promise, request_row, is_constructor}
 use Rattle.channel_model.specs.Outputs.{is_open, AnsweredRequest, request_answered, resolver_answered, reply_to, body_of}
 use Rattle.channel_model.specs.Parts
-use Rattle.channel_model.specs.Parts.{FirstPart, LaterPart, LaterParts, OwnParts, DeliveryPart, HoldsActor, behind_outbox, reply_packet, reply_packets, end_behind, left_end, outbox_after, request_packets, promise_for}
+use Rattle.channel_model.specs.Parts.{FirstPart, LaterPart, LaterParts, OwnParts, DeliveryPart, HoldsActor, after_outbox, reply_packet, reply_packets, end_after, left_end, outbox_after, request_packets, promise_for}
 use Rattle.channel_model.specs.Phases.{Phase, manager_of, quiet, sending}
 use Rattle.channel_model.specs.Returns as return
 use Rattle.channel_model.specs.Sends as send
@@ -96,7 +97,7 @@ fresh-right : (P : ℤ → Type 0) (b : Bool) (id : ℤ) → P id → AllByRecur
 fresh-right P true id h = (h, tt)
 fresh-right P false id h = tt
 
--- what a first part needs of ids: the one that a request makes stands for its protocol
+-- what a first part needs of ids: the id that a request makes has its protocol
 abbrev pub SendsRight : {schema : Schema} {e f : End} {ws : List What} {ps : List Packet} {p : Phase} → Protocols → FirstPart schema e ws ps f p → Type 0
 SendsRight {e} made (Parts.sends row route vs name sent) = MakesItsProtocol made row.kind (send.next_made e row.kind)
 SendsRight made _ = Unit {0}
@@ -108,7 +109,7 @@ OwnSendsRight made (Parts.begun part rest ended) = SendsRight made part
 abbrev pub IsAwaited : Schema → Packet → End → Type 0
 IsAwaited schema packet e = (m : Message) → packet ≡ message m → IsReply m.body → is_sync_number schema m.number ≡ true → awaited_reply e.stack ≡ Some (reply_head m)
 
--- Behind a part the end keeps, and has sent, what has its protocols, and what it may still build has too.
+-- After a part what the end keeps and has sent has its protocols, and so has what it may still build.
 pub record Right (schema : Schema) (made : Protocols) (f : End) (ps : List Packet) (q : Phase) : Type 0 where
   pub keeps : HasProtocols schema made f
   pub packets : AllByRecursion (PacketHasProtocols schema made) ps
@@ -133,16 +134,16 @@ module _ (schema : Schema) (sound : IsSound schema) (made : Protocols) where
   outbox-right : (e : End) → HasProtocols schema made e → AllByRecursion (PacketHasProtocols schema made) (map message e.outbox)
   outbox-right e k = all-messages (PacketHasProtocols schema made) (MessageHasProtocols schema made) e.outbox (λ m h. h) k.outbox
 
-  behind-right : (e : End) (p : Packet) → HasProtocols schema made e → PacketHasProtocols schema made p → AllByRecursion (PacketHasProtocols schema made) (behind_outbox e p)
-  behind-right e p k h = all-append (PacketHasProtocols schema made) (map message e.outbox) (p ∷ []) (outbox-right e k) (h, tt)
+  following-right : (e : End) (p : Packet) → HasProtocols schema made e → PacketHasProtocols schema made p → AllByRecursion (PacketHasProtocols schema made) (after_outbox e p)
+  following-right e p k h = all-append (PacketHasProtocols schema made) (map message e.outbox) (p ∷ []) (outbox-right e k) (h, tt)
 
   replies-right : (b : Bool) (e : End) (q : AnsweredRequest) (a : Answer) → HasProtocols schema made e → KeptRequest schema made q.route q.number → AnswerHasProtocols schema made q.number a → AllByRecursion (PacketHasProtocols schema made) (reply_packets b e q a)
-  replies-right true e q a k r h = behind-right e (reply_packet q a) k (reply-right q a r h)
+  replies-right true e q a k r h = following-right e (reply_packet q a) k (reply-right q a r h)
   replies-right false e q a k r h = tt
 
-  sent-behind : (b : Bool) (e : End) → HasProtocols schema made e → HasProtocols schema made (end_behind b e)
-  sent-behind true e k = record { actors = k.actors; entries = k.entries; names = k.names; arrived = k.arrived; outbox = tt }
-  sent-behind false e k = k
+  sent-following : (b : Bool) (e : End) → HasProtocols schema made e → HasProtocols schema made (end_after b e)
+  sent-following true e k = record { actors = k.actors; entries = k.entries; names = k.names; arrived = k.arrived; outbox = tt }
+  sent-following false e k = k
 
   -- Stacks
 
@@ -167,7 +168,7 @@ module _ (schema : Schema) (sound : IsSound schema) (made : Protocols) where
   same-right [] h = tt
   same-right (x ∷ xs) h = (h.0, same-right xs h.1)
 
-  -- the reply that the innermost wait awaits is to its request
+  -- the reply that the innermost wait waits for is to its request
   answered-right : (m : Message) (a : Answer) (es : List StackEntry) → ((n : ℕ) → n + 1 ≡ m.number → AnswerHasProtocols schema made n a) → awaited_reply es ≡ Some (reply_head m) → AllByRecursion (EntryHasProtocols schema made) es
       → AllByRecursion (EntryHasProtocols schema made) (delivery.with_frames (with_answer a (map (λ (x : StackEntry). x.frame) es)) es)
   answered-right m a [] fits e h = tt
@@ -245,7 +246,7 @@ module _ (schema : Schema) (sound : IsSound schema) (made : Protocols) where
   taken-right e x k next = by (take.takes_in_state e.state && take.takes_under (top_of (send.frames_of e))) next
     where
       by : (b : Bool) → cond b (take.first_free e) None ≡ Some x → ItemHasProtocols schema made x
-      by true is = all-found (ItemHasProtocols schema made) (is_free (take.holding_of e)) e.arrived x k.arrived is
+      by true is = all-found (ItemHasProtocols schema made) (is_free (take.deferral_context_of e)) e.arrived x k.arrived is
       by false is = cc
 
   pub taken-request : (e : End) (m : Message) (sync : Bool) (level : Level) (row : MessageRow) (vs : Values) → HasProtocols schema made e → take.taken_next e ≡ Some (item.Message m sync level) → m.body ≡ Request vs → message_of schema m.number ≡ Some row → IsRightMessage schema made m row (Request vs)
@@ -256,7 +257,7 @@ module _ (schema : Schema) (sound : IsSound schema) (made : Protocols) where
     actors = k.actors;
     entries = k.entries;
     names = k.names;
-    arrived = all-sublist (ItemHasProtocols schema made) (without_first (is_free (take.holding_of e)) e.arrived) e.arrived (without_first-sublist (is_free (take.holding_of e)) e.arrived) k.arrived;
+    arrived = all-sublist (ItemHasProtocols schema made) (without_first (is_free (take.deferral_context_of e)) e.arrived) e.arrived (without_first-sublist (is_free (take.deferral_context_of e)) e.arrived) k.arrived;
     outbox = k.outbox;
   }
 
@@ -289,7 +290,7 @@ module _ (schema : Schema) (sound : IsSound schema) (made : Protocols) where
   nothing-right [] = tt
   nothing-right (field ∷ fields) = tt
 
-  -- values of which none is dead, as an answer
+  -- values without a dead actor, as an answer
   alive-right : (e : End) (row : MessageRow) (number : ℕ) (vs : Values) → HasProtocols schema made e → request_row schema number ≡ Some row → has_dead schema e.actors (returns_of_row row) vs ≡ false → AnswerHasProtocols schema made number (answer.Ok vs)
   alive-right e row number vs k found alive r request =
       subst (λ (x : MessageRow). HaveTheirProtocols made (actors_in_parts schema (returns_of_row x) vs)) (same_Some row r (sym found ∙ request)) (none-dead made e.actors k.actors (actors_in_parts schema (returns_of_row row) vs) alive)
@@ -374,16 +375,16 @@ module _ (schema : Schema) (sound : IsSound schema) (made : Protocols) where
       by : (lazy sync wants : Bool) → Right schema made (record e { sent = e.sent + 1; constructors_sent = counting row.kind e.constructors_sent; outbox = outbox_after lazy (send.request_of e row route vs) e.outbox; stack = cond sync (send.wait_for row (send.request_of e row route vs) ∷ e.stack) e.stack; promises = cond wants (e.promises ++ promise_for (send.request_of e row route vs) ∷ []) e.promises }) (request_packets lazy e (send.request_of e row route vs)) (sending row (send.request_of e row route vs))
       by true true wants = record { keeps = record { actors = k.actors; entries = (waiting, k.entries); names = k.names; arrived = k.arrived; outbox = all-append (MessageHasProtocols schema made) e.outbox (send.request_of e row route vs ∷ []) k.outbox (outgoing, tt) }; packets = tt; fresh = fresh-right (MakesItsProtocol made row.kind) (is_constructor row.kind) (send.next_made e row.kind) new }
       by true false wants = record { keeps = record { actors = k.actors; entries = k.entries; names = k.names; arrived = k.arrived; outbox = all-append (MessageHasProtocols schema made) e.outbox (send.request_of e row route vs ∷ []) k.outbox (outgoing, tt) }; packets = tt; fresh = fresh-right (MakesItsProtocol made row.kind) (is_constructor row.kind) (send.next_made e row.kind) new }
-      by false true wants = record { keeps = record { actors = k.actors; entries = (waiting, k.entries); names = k.names; arrived = k.arrived; outbox = tt }; packets = behind-right e (message (send.request_of e row route vs)) k outgoing; fresh = fresh-right (MakesItsProtocol made row.kind) (is_constructor row.kind) (send.next_made e row.kind) new }
-      by false false wants = record { keeps = record { actors = k.actors; entries = k.entries; names = k.names; arrived = k.arrived; outbox = tt }; packets = behind-right e (message (send.request_of e row route vs)) k outgoing; fresh = fresh-right (MakesItsProtocol made row.kind) (is_constructor row.kind) (send.next_made e row.kind) new }
+      by false true wants = record { keeps = record { actors = k.actors; entries = (waiting, k.entries); names = k.names; arrived = k.arrived; outbox = tt }; packets = following-right e (message (send.request_of e row route vs)) k outgoing; fresh = fresh-right (MakesItsProtocol made row.kind) (is_constructor row.kind) (send.next_made e row.kind) new }
+      by false false wants = record { keeps = record { actors = k.actors; entries = k.entries; names = k.names; arrived = k.arrived; outbox = tt }; packets = following-right e (message (send.request_of e row route vs)) k outgoing; fresh = fresh-right (MakesItsProtocol made row.kind) (is_constructor row.kind) (send.next_made e row.kind) new }
   first-right {e} (Parts.answers by vs r row found may accepted used) new k =
-      quiet-right (record (answering.without_resolver by e) { outbox = [] }) (behind_outbox e (message (reply_to (resolver_answered r) (answering.answer_body vs)))) (without-right by e k) (behind-right e (message (reply_to (resolver_answered r) (answering.answer_body vs))) k (used-answer e by row r vs k found accepted used))
+      quiet-right (record (answering.without_resolver by e) { outbox = [] }) (after_outbox e (message (reply_to (resolver_answered r) (answering.answer_body vs)))) (without-right by e k) (following-right e (message (reply_to (resolver_answered r) (answering.answer_body vs))) k (used-answer e by row r vs k found accepted used))
   first-right {e} (Parts.closes o waits) new k = record {
     keeps = record { actors = k.actors; entries = k.entries; names = all-filter (NamingHasProtocols schema made) is_actor e.names k.names; arrived = tt; outbox = tt };
-    packets = behind-right e (message goodbye) k goodbye-right;
+    packets = following-right e (message goodbye) k goodbye-right;
     fresh = tt;
   }
-  first-right {e} (Parts.dies o) new k = record { keeps = record { actors = k.actors; entries = tt; names = k.names; arrived = tt; outbox = tt }; packets = behind-right e mark k tt; fresh = tt }
+  first-right {e} (Parts.dies o) new k = record { keeps = record { actors = k.actors; entries = tt; names = k.names; arrived = tt; outbox = tt }; packets = following-right e mark k tt; fresh = tt }
   first-right {e} (Parts.dies_silent o alive) new k = record { keeps = record { actors = k.actors; entries = tt; names = k.names; arrived = tt; outbox = k.outbox }; packets = tt; fresh = tt }
   first-right {e} (Parts.takes m sync level row vs next body found stays) new k =
       let l : HasProtocols schema made (left_end e) = left-right e k in
@@ -394,7 +395,7 @@ module _ (schema : Schema) (sound : IsSound schema) (made : Protocols) where
         fresh = fresh-right (MakesItsProtocol made row.kind) (is_constructor row.kind) m.made r.request.makes;
       }
   first-right {e} (Parts.drops m sync level row vs id replies next body found gone is) new k =
-      quiet-right (end_behind replies (left_end e)) (reply_packets replies e (request_answered m) (answer.Fault ActorDestroyed)) (sent-behind replies (left_end e) (left-right e k))
+      quiet-right (end_after replies (left_end e)) (reply_packets replies e (request_answered m) (answer.Fault ActorDestroyed)) (sent-following replies (left_end e) (left-right e k))
       (replies-right replies e (request_answered m) (answer.Fault ActorDestroyed) k (request-kept m row vs (taken-request e m sync level row vs k next body found)) tt)
   first-right {e} (Parts.drops_unknown m sync level vs next body found) new k = quiet-right (left_end e) [] (left-right e k) tt
   first-right {e} (Parts.takes_reply m sync level a next body settles) new k = quiet-right (left_end e) [] (left-right e k) tt
@@ -406,10 +407,10 @@ module _ (schema : Schema) (sound : IsSound schema) (made : Protocols) where
       let top : EntryHasProtocols schema made entry = top-right e.stack entry is.on_top k.entries in
       let popped : HasProtocols schema made (record e { stack = drop 1 e.stack }) = record { actors = k.actors; entries = all-drop (EntryHasProtocols schema made) e.stack k.entries; names = k.names; arrived = k.arrived; outbox = k.outbox } in
       record {
-        keeps = sent-behind lost (end_behind told (record e { stack = drop 1 e.stack })) (sent-behind told (record e { stack = drop 1 e.stack }) popped);
-        packets = all-append (PacketHasProtocols schema made) (reply_packets told e (return.dispatch_answered entry) (return.return_answer schema e row entry vs)) (reply_packets lost (end_behind told e) (resolver_answered (answering.resolver_in entry)) (answer.Fault ResolverDestroyed))
+        keeps = sent-following lost (end_after told (record e { stack = drop 1 e.stack })) (sent-following told (record e { stack = drop 1 e.stack }) popped);
+        packets = all-append (PacketHasProtocols schema made) (reply_packets told e (return.dispatch_answered entry) (return.return_answer schema e row entry vs)) (reply_packets lost (end_after told e) (resolver_answered (answering.resolver_in entry)) (answer.Fault ResolverDestroyed))
             (replies-right told e (return.dispatch_answered entry) (return.return_answer schema e row entry vs) k top.request (return-right e row entry vs k is.found))
-            (replies-right lost (end_behind told e) (resolver_answered (answering.resolver_in entry)) (answer.Fault ResolverDestroyed) (sent-behind told e k) top.request tt);
+            (replies-right lost (end_after told e) (resolver_answered (answering.resolver_in entry)) (answer.Fault ResolverDestroyed) (sent-following told e k) top.request tt);
         fresh = tt;
       }
   first-right {e} (Parts.resumes wait row on_top found) new k = quiet-right (record e { stack = drop 1 e.stack }) [] (record { actors = k.actors; entries = all-drop (EntryHasProtocols schema made) e.stack k.entries; names = k.names; arrived = k.arrived; outbox = k.outbox }) tt
@@ -418,7 +419,7 @@ module _ (schema : Schema) (sound : IsSound schema) (made : Protocols) where
   later-right {e} (Parts.unnames name may silent) n k = record { keeps = record { actors = k.actors; entries = k.entries; names = all-filter (NamingHasProtocols schema made) (λ naming. not (has_name name naming)) e.names k.names; arrived = k.arrived; outbox = k.outbox }; packets = tt; fresh = n }
   later-right {e} (Parts.lets_go name r may is o) n k = record {
     keeps = record { actors = k.actors; entries = k.entries; names = all-filter (NamingHasProtocols schema made) (λ naming. not (has_name name naming)) e.names k.names; arrived = k.arrived; outbox = tt };
-    packets = behind-right e (reply_packet (resolver_answered r) (answer.Fault ResolverDestroyed)) k (reply-right (resolver_answered r) (answer.Fault ResolverDestroyed) (held-right name e.names (resolver r) k.names is) tt);
+    packets = following-right e (reply_packet (resolver_answered r) (answer.Fault ResolverDestroyed)) k (reply-right (resolver_answered r) (answer.Fault ResolverDestroyed) (held-right name e.names (resolver r) k.names is) tt);
     fresh = n;
   }
   later-right {e} (Parts.names more a) n k = record { keeps = record { actors = k.actors; entries = k.entries; names = all-append (NamingHasProtocols schema made) e.names more k.names (actor-names more a); arrived = k.arrived; outbox = k.outbox }; packets = tt; fresh = n }
@@ -466,7 +467,7 @@ module _ (schema : Schema) (sound : IsSound schema) (made : Protocols) where
   pub delivery-right : {packet : Packet} {q : Phase} {e f : End} {ws : List What} {ps : List Packet} → DeliveryPart schema packet e ws ps f q → IsAwaited schema packet e → PacketHasProtocols schema made packet → HasProtocols schema made e → Right schema made f ps q
   delivery-right {e} (Parts.gets_request m row vs body found none) aw h k = quiet-right (delivery.counted row (delivery.item_of row m) e) [] (counted-right e row m h k) tt
   delivery-right {e} (Parts.replaces m row vs old sync level replies body found rep is) aw h k =
-      quiet-right (end_behind replies (delivery.counted row (delivery.item_of row m) e)) (reply_packets replies e (request_answered old) (answer.Fault ResolverDestroyed)) (sent-behind replies (delivery.counted row (delivery.item_of row m) e) (counted-right e row m h k))
+      quiet-right (end_after replies (delivery.counted row (delivery.item_of row m) e)) (reply_packets replies e (request_answered old) (answer.Fault ResolverDestroyed)) (sent-following replies (delivery.counted row (delivery.item_of row m) e) (counted-right e row m h k))
       (replies-right replies e (request_answered old) (answer.Fault ResolverDestroyed) k (old-kept e row m old sync level k found rep) tt)
   delivery-right {e} (Parts.gets_answer m row a body found sync) aw h k =
       let right : IsRightMessage schema made m row (body_of a) = subst (IsRightMessage schema made m row) body (h row found) in

@@ -1,4 +1,4 @@
--- In every run each id stands for one protocol.
+-- In every run each id has one protocol.
 use Rattle.std.proofs.Common.{◌≡◌, inl, ℕ, ◌+◌, ℤ, Bool, true, false, List, [], ◌∷◌, ◌++◌, drop, length, Option, Some, None, refl, sym, ap, subst, ◌∙◌, arith}
 use Rattle.std.specs.List.{AllByRecursion}
 use Rattle.ipdl_base.specs.declared.kinds.Side.{Side}
@@ -13,10 +13,11 @@ use Rattle.channel_model.specs.Deliveries as delivery
 use Rattle.channel_model.specs.Ends.{End, World, Packet, opening, opening_end}
 use Rattle.channel_model.specs.Events.{Event, Move, Answering, handled, kept}
 use Rattle.channel_model.specs.Events as event
-use Rattle.channel_model.specs.Numbers.{other, id_of, counting}
+use Rattle.ipdl_base.specs.Sides.{other}
+use Rattle.channel_model.specs.Numbers.{id_of, counting}
 use Rattle.channel_model.specs.Outputs.{Output, is_open}
 use Rattle.channel_model.specs.Parts
-use Rattle.channel_model.specs.Parts.{FirstPart, LaterPart, LaterParts, OwnParts, DeliveryPart, end_behind}
+use Rattle.channel_model.specs.Parts.{FirstPart, LaterPart, LaterParts, OwnParts, DeliveryPart, end_after}
 use Rattle.channel_model.specs.Phases.{Phase}
 use Rattle.channel_model.specs.Runs.{after_event, output_of, passed_by, happens, run}
 use Rattle.channel_model.specs.Sends as send
@@ -38,7 +39,7 @@ use Rattle.channel_laws.proofs.Rows.{sound_schemas_have_sound_rows}
 use Rattle.channel_laws.proofs.StandsFor.{constructing, stands-on, stands-new, lives-alike}
 use Rattle.channel_laws.proofs.WorldSteps.{move-waits, opening-waits}
 
--- What a step constructs
+-- The protocols that a step constructs
 
 -- the protocol of the actor that a request of a kind makes, if it makes one
 abbrev pub kind_protocols : Kind → List ℕ
@@ -56,9 +57,9 @@ own_constructs (Parts.begun part rest ended) = first_constructs part
 no-more : (n : ℕ) → n ≡ n + 0
 no-more n = omega arith
 
-behind-count : (b : Bool) (e : End) → (end_behind b e).constructors_sent ≡ e.constructors_sent
-behind-count true e = refl
-behind-count false e = refl
+following-count : (b : Bool) (e : End) → (end_after b e).constructors_sent ≡ e.constructors_sent
+following-count true e = refl
+following-count false e = refl
 
 without-count : (by : Answering) (e : End) → (answering.without_resolver by e).constructors_sent ≡ e.constructors_sent
 without-count (handled seq) e = refl
@@ -79,12 +80,12 @@ first-count {e} (Parts.closes o waits) = no-more e.constructors_sent
 first-count {e} (Parts.dies o) = no-more e.constructors_sent
 first-count {e} (Parts.dies_silent o alive) = no-more e.constructors_sent
 first-count {e} (Parts.takes m sync level row vs next body found stays) = no-more e.constructors_sent
-first-count {e} (Parts.drops m sync level row vs id replies next body found gone is) = behind-count replies (Parts.left_end e) ∙ no-more e.constructors_sent
+first-count {e} (Parts.drops m sync level row vs id replies next body found gone is) = following-count replies (Parts.left_end e) ∙ no-more e.constructors_sent
 first-count {e} (Parts.drops_unknown m sync level vs next body found) = no-more e.constructors_sent
 first-count {e} (Parts.takes_reply m sync level a next body settles) = no-more e.constructors_sent
 first-count {e} (Parts.settles m sync level row a next body found is) = no-more e.constructors_sent
 first-count {e} (Parts.shuts last next is) = no-more e.constructors_sent
-first-count {e} (Parts.returns entry row vs told lost is t l) = behind-count lost (end_behind told (record e { stack = drop 1 e.stack })) ∙ (behind-count told (record e { stack = drop 1 e.stack }) ∙ no-more e.constructors_sent)
+first-count {e} (Parts.returns entry row vs told lost is t l) = following-count lost (end_after told (record e { stack = drop 1 e.stack })) ∙ (following-count told (record e { stack = drop 1 e.stack }) ∙ no-more e.constructors_sent)
 first-count {e} (Parts.resumes wait row on_top found) = no-more e.constructors_sent
 
 later-count : {p q : Phase} {e f : End} {ws : List What} {ps : List Packet} → LaterPart p e ws ps f q → f.constructors_sent ≡ e.constructors_sent
@@ -106,7 +107,7 @@ own-count (Parts.begun part rest ended) = laters-count rest ∙ first-count part
 
 delivery-count : {schema : Schema} {packet : Packet} {q : Phase} {e f : End} {ws : List What} {ps : List Packet} → DeliveryPart schema packet e ws ps f q → f.constructors_sent ≡ e.constructors_sent
 delivery-count (Parts.gets_request m row vs body found none) = refl
-delivery-count {e} (Parts.replaces m row vs old sync level replies body found rep is) = behind-count replies (delivery.counted row (delivery.item_of row m) e)
+delivery-count {e} (Parts.replaces m row vs old sync level replies body found rep is) = following-count replies (delivery.counted row (delivery.item_of row m) e)
 delivery-count (Parts.gets_answer m row a body found sync) = refl
 delivery-count (Parts.gets_reply m row a body found sync) = refl
 delivery-count (Parts.drains packet is) = refl
@@ -145,7 +146,7 @@ flip {side} h = record {
 -- Steps
 
 module _ (schema : Schema) (sound : IsSound schema) (top : ℕ) (side : Side) where
-  -- the id that a request makes stands for its protocol, once that is counted
+  -- the id that a request makes has its protocol, once it is counted
   makes-new : (made : Protocols) (e : End) (kind : Kind) → e.side ≡ side → constructed_count side made ≡ e.constructors_sent → MakesItsProtocol (constructing side (kind_protocols kind) made) kind (send.next_made e kind)
   makes-new made e Normal is count = tt
   makes-new made e (Constructor protocol) is count =
@@ -229,15 +230,15 @@ module _ (schema : Schema) (sound : IsSound schema) (top : ℕ) (side : Side) wh
 -- Worlds
 
 module _ (schema : Schema) (sound : IsSound schema) (top : ℕ) where
-  pub protocols-behind : (side : Side) (ev : Event) (w : World) (found : Option Output) → output_of schema w (record { side = side; event = ev }) ≡ found → IsNestedWorld schema w → WorldHasProtocols schema top w → WorldHasProtocols schema top (passed_by found (record { side = side; event = ev }) w).world
-  protocols-behind side ev w None is n h = h
-  protocols-behind Parent ev w (Some o) is n h = moved schema sound top Parent ev w.parent w.child w.to_parent w.to_child o n.parent (from-side schema Parent w n) h (steps_are_made_of_parts schema w.parent w.to_parent ev o is)
-  protocols-behind Child ev w (Some o) is n h = flip (moved schema sound top Child ev w.child w.parent w.to_child w.to_parent o n.child (from-side schema Child w n) (flip h) (steps_are_made_of_parts schema w.child w.to_child ev o is))
+  pub protocols-following : (side : Side) (ev : Event) (w : World) (found : Option Output) → output_of schema w (record { side = side; event = ev }) ≡ found → IsNestedWorld schema w → WorldHasProtocols schema top w → WorldHasProtocols schema top (passed_by found (record { side = side; event = ev }) w).world
+  protocols-following side ev w None is n h = h
+  protocols-following Parent ev w (Some o) is n h = moved schema sound top Parent ev w.parent w.child w.to_parent w.to_child o n.parent (from-side schema Parent w n) h (steps_are_made_of_parts schema w.parent w.to_parent ev o is)
+  protocols-following Child ev w (Some o) is n h = flip (moved schema sound top Child ev w.child w.parent w.to_child w.to_parent o n.child (from-side schema Child w n) (flip h) (steps_are_made_of_parts schema w.child w.to_child ev o is))
 
   runs-right : (moves : List Move) (w : World) → IsNestedWorld schema w → WorldHasProtocols schema top w → WorldHasProtocols schema top (run schema moves w).world
   runs-right [] w n h = h
   runs-right (move ∷ moves) w n h =
-      runs-right moves (happens schema w move).world (move-waits schema (sound_schemas_have_sound_rows schema sound) move w n) (protocols-behind move.side move.event w (output_of schema w move) refl n h)
+      runs-right moves (happens schema w move).world (move-waits schema (sound_schemas_have_sound_rows schema sound) move w n) (protocols-following move.side move.event w (output_of schema w move) refl n h)
 
   first-protocols : (side : Side) → HasProtocols schema (record { top = top; parent = []; child = [] }) (opening_end top side)
   first-protocols side = record { actors = (inl (refl, refl), tt); entries = tt; names = tt; arrived = tt; outbox = tt }

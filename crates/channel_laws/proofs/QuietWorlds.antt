@@ -1,4 +1,4 @@
--- A world is still where nothing is chosen for either end, no work is left, and nothing can be delivered.
+-- A world is still if no step is chosen for either end, no work is left, and nothing can be delivered.
 use Rattle.std.proofs.Common.{◌≡◌, Bool, true, false, not, ◌&&◌, ◌||◌, Option, Some, None, is_some, is_none, refl, ap, ◌∙◌}
 use Rattle.ipdl_base.specs.declared.kinds.Side.{Side}
 use Rattle.ipdl_base.specs.declared.kinds.Side.TheVariants.{Parent, Child}

@@ -1,4 +1,4 @@
--- At every reached world lines and ends say the same of who lives.
+-- At every reached world lines and ends agree on which actors live.
 use Rattle.std.proofs.Common.{◌≡◌, ℕ, List, [], ◌∷◌, Some, None, sym, subst, ◌∙◌}
 use Rattle.std.specs.List.{AllByRecursion}
 use Rattle.std.proofs.lemmas.Option.{same_Some}
@@ -26,7 +26,7 @@ pub protocols-at : (schema : Schema) (top : ℕ) (side : Side) (w : World) (p : 
 protocols-at schema top Parent w p = p.keeps
 protocols-at schema top Child w p = p.their_keeps
 
--- those of the answer of the wait on top
+-- the protocols of the answer of the wait on top
 pub top-protocols : (schema : Schema) (made : Protocols) (es : List StackEntry) (wait : return.AnsweredWait) → return.answered_wait_on_top es ≡ Some wait → AllByRecursion (EntryHasProtocols schema made) es → AnswerHasProtocols schema made wait.number wait.given
 top-protocols schema made [] wait e h = cc
 top-protocols schema made (x ∷ xs) wait e h = by x.frame e h.0.frame

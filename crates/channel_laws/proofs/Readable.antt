@@ -59,7 +59,7 @@ use Rattle.history_reading.specs.Holds.{is_readable}
 use Rattle.history_reading.specs.Reading.{Reading, after, after_what, end_reading_of, other_of, opening_reading, read}
 use Rattle.channel_model.specs.Ends.{World, message, mark, end_of, opening}
 use Rattle.channel_model.specs.Events.{Event, Move}
-use Rattle.channel_model.specs.Numbers.{other}
+use Rattle.ipdl_base.specs.Sides.{other}
 use Rattle.channel_model.specs.Runs.{run, history_of}
 use Rattle.channel_model.proofs.Follow.{effects_follow_events}
 use Rattle.channel_laws.specs.ReadingLaws.{HistoriesAreReadable}
@@ -149,7 +149,7 @@ module _ (schema : Schema) where
   unknown-reads seq (Fault r) h = refl
   unknown-reads seq Goodbye h = refl
 
-  -- Parts of a delivery can be read wherever they stand
+  -- Parts of a delivery can be read wherever they are
 
   free-delivery : {packet : Packet} {q : Phase} {e f : End} {ws : List What} {ps : List Packet} → DeliveryPart schema packet e ws ps f q → AllByRecursion Free ws
   free-delivery (parts.gets_request m row vs body found none) = ((λ h. refl), tt)
@@ -204,14 +204,14 @@ module _ (schema : Schema) where
 -- Every legal history can be read
 
 abbrev ReadsLines : Schema → Reading → List Line → List Line → Type 0
-ReadsLines schema r lines behind = LinesPass schema (λ r l b. event_test r l b && test_at (λ own other said. is_readable_what schema own.stack said) r l b) r lines behind
+ReadsLines schema r lines following = LinesPass schema (λ r l b. event_test r l b && test_at (λ own other said. is_readable_what schema own.stack said) r l b) r lines following
 
-unfold-readable : (schema : Schema) (r : Reading) (lines behind : List Line) → ReadsLines schema r lines behind → LinesPass schema (λ r l b. is_readable schema r l) r lines behind
+unfold-readable : (schema : Schema) (r : Reading) (lines following : List Line) → ReadsLines schema r lines following → LinesPass schema (λ r l b. is_readable schema r l) r lines following
 unfolding is_readable
-unfold-readable schema r [] behind p = tt
-unfold-readable schema r (l ∷ ls) behind p = (p.0, unfold-readable schema (after schema r l) ls behind p.1)
+unfold-readable schema r [] following p = tt
+unfold-readable schema r (l ∷ ls) following p = (p.0, unfold-readable schema (after schema r l) ls following p.1)
 
--- nothing is kept beside the reading
+-- nothing is kept besides the reading
 abbrev NothingMore : World → Reading → Type 0
 NothingMore w r = Unit {0}
 
@@ -220,7 +220,7 @@ run-reads schema sound top moves =
     every-run schema sound NothingMore (test_at (λ own other said. is_readable_what schema own.stack said))
     (λ move w r output m k. record {
       kept = tt;
-      passes = λ behind. ends-pass schema (λ own other said. is_readable_what schema own.stack said) move.side move.event w r output behind m.nested m.ends
+      passes = λ following. ends-pass schema (λ own other said. is_readable_what schema own.stack said) move.side move.event w r output following m.nested m.ends
           (move-reads schema (sound_schemas_have_sound_rows schema sound) (told_notes (end_of (other move.side) w).side (other_of move.side r).sent) r.lines (end_reading_of move.side r) m.ends.parts m.ends.before.outlined m.ends.before.origins);
     }) top moves tt
 

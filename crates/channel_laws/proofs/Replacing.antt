@@ -13,9 +13,9 @@ use Rattle.pending_queue.specs.declared.item.Item.TheVariants as item
 use Rattle.pending_queue.specs.Compression.{is_request, is_request_of, are_alike, last_of, latest, without_latest, replaced, staying}
 use Rattle.channel_laws.proofs.Deliveries.{replaced-last}
 use Rattle.channel_model.proofs.Tests.{and-left, and-right}
-use Rattle.channel_laws.proofs.Leaving.{TakenFrom, taken-behind}
+use Rattle.channel_laws.proofs.Leaving.{TakenFrom, taken-following}
 
--- An item that is replaced leaves, and is alike to the new one.
+-- An item that is replaced leaves, and is like the new one.
 pub record Replaces (compress : Compress) (new : Item) (items : List Item) (old : Item) : Type 0 where
   pub taken : TakenFrom items (staying compress new items) old
   pub alike : are_alike new old ≡ true
@@ -23,8 +23,8 @@ pub record Replaces (compress : Compress) (new : Item) (items : List Item) (old 
 -- Under All
 
 latest-case : (test : Item → Bool) (b c : Bool) (y : Item) (ys : List Item) (x : Item) → test y ≡ b → (if c then latest test ys else (if b then Some y else None)) ≡ Some x → (latest test ys ≡ Some x → TakenFrom ys (without_latest test ys) x × (test x ≡ true)) → TakenFrom (y ∷ ys) (cond (b && not c) ys (y ∷ without_latest test ys)) x × (test x ≡ true)
-latest-case test true true y ys x is e rec = let r = rec e in (taken-behind ys (without_latest test ys) x y r.0, r.1)
-latest-case test false true y ys x is e rec = let r = rec e in (taken-behind ys (without_latest test ys) x y r.0, r.1)
+latest-case test true true y ys x is e rec = let r = rec e in (taken-following ys (without_latest test ys) x y r.0, r.1)
+latest-case test false true y ys x is e rec = let r = rec e in (taken-following ys (without_latest test ys) x y r.0, r.1)
 latest-case test true false y ys x is e rec = let same : y ≡ x = same_Some y x e in (record { front = []; back = ys; whole = ap (λ (z : Item). z ∷ ys) same; left = refl }, ap test (sym same) ∙ is)
 latest-case test false false y ys x is e rec = cc
 
@@ -82,7 +82,7 @@ none-replaced Plain new items e = refl
 none-replaced Last new items e = ap (λ (r : Option Item). if is_some r then take (length items - 1) items else items) e
 none-replaced All new items e = latest-stays (are_alike new) items e
 
--- A request that is alike is a request.
+-- An item that is like a request is a request.
 
 no-request : (b : Bool) → b && false ≡ true → ⊥
 no-request true e = cc

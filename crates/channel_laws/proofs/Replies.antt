@@ -13,7 +13,7 @@ use Rattle.ipdl_base.specs.declared.schema.Schema.{Schema}
 use Rattle.nesting_core.specs.Frames.{head_of, is_unanswered}
 use Rattle.ipdl_base.specs.declared.kinds.EndState.TheVariants.{Open}
 use Rattle.channel_model.specs.Ends.{End, World, Packet, message, end_of, link_to, StackEntry}
-use Rattle.channel_model.specs.Numbers.{other}
+use Rattle.ipdl_base.specs.Sides.{other}
 use Rattle.channel_laws.proofs.Awaited.{awaited-for}
 use Rattle.channel_laws.proofs.WorldSteps.{nested_top}
 use Rattle.channel_laws.specs.Laws.{IsReply, RepliesFindTheirWaits, world_of, awaited_reply, SyncRepliesAreNotStray}
@@ -48,7 +48,7 @@ replies_find_their_waits schema sound top moves side m rest is_open_end link r s
     let h : IsNestedWorld schema w = nesting_in_every_run schema sound top moves in
     reply-waits schema side (end_of side w) (end_of (other side) w) (link_to side w) (link_to (other side) w) m rest is_open_end (end-side schema side w h) link r sync (from-side schema side w h)
 
--- none is stray
+-- no such reply is stray
 
 waited-entry : (m : Message) (entry : StackEntry) → record { seq = (head_of entry.frame).seq; route = entry.route; number = entry.number + 1 } ≡ reply_head m → is_replied_to m (head_of entry.frame).seq entry.number entry.route ≡ true
 waited-entry m entry e =

@@ -52,7 +52,7 @@ use Rattle.std.proofs.lemmas.List.{map-append}
 
 -- Lines
 
--- a line by which no end says that the channel has closed
+-- a line by which no end replies that the channel has closed
 abbrev IsAllowed : What → Type 0
 IsAllowed (what.AnswerFault n reason) = IsNoClosedFault (told.fault reason)
 IsAllowed _ = Unit {0}
@@ -229,7 +229,7 @@ module _ (schema : Schema) where
   step-allowed e link (acts same part) = own-allowed part
   step-allowed e link (delivers packet first o part) = delivery-allowed part
 
-  -- behind a step an end reads replies as before
+  -- after a step an end reads replies as before
   pub replies-step : (place : ℕ) (e : End) (own : EndReading) (link : List Packet) {ev : Event} {ws : List What} {ps : List Packet} {f : End} {q : Phase} → StepParts schema e link ev ws ps f q → f.side ≡ e.side → ((packet : Packet) → first_packet link ≡ Some packet → is_open e.state ≡ true → PacketReplies schema (told_notes e.side own.sent) packet)
       → ReadsReplies schema e own → ReadsReplies schema f (after_whats schema place ws own)
   replies-step place e own link {ws = ws} {f = f} part side comes h =

@@ -1,4 +1,4 @@
--- The next number behind a request's is that of its reply alone, and has its protocol.
+-- The number after a request's number is that of its reply alone, and has its protocol.
 use Rattle.std.proofs.Common.{◌≡◌, ◌≢◌, ℕ, ◌+◌, ◌/◌, ◌%◌, Bool, true, false, Some, refl, sym, ap, ◌∙◌, arith}
 use Rattle.std.specs.List.{slice_get}
 use Rattle.std.proofs.lemmas.Option.{same_Some}

@@ -17,10 +17,11 @@ use Rattle.channel_model.specs.Answers as answering
 use Rattle.channel_model.specs.Deliveries as delivery
 use Rattle.channel_model.specs.Ends.{End, Packet, message, mark, resolver}
 use Rattle.channel_model.specs.Events.{Answering, handled, kept}
-use Rattle.channel_model.specs.Numbers.{top_id, id_of, sends, is_constructor, counting, is_sync_row, makes_promise}
+use Rattle.ipdl_base.specs.Sides.{top_id, sends}
+use Rattle.channel_model.specs.Numbers.{id_of, is_constructor, counting, is_sync_row, makes_promise}
 use Rattle.channel_model.specs.Outputs.{is_open, AnsweredRequest, request_answered, resolver_answered, reply_to, body_of}
 use Rattle.channel_model.specs.Parts
-use Rattle.channel_model.specs.Parts.{FirstPart, LaterPart, LaterParts, OwnParts, DeliveryPart, behind_outbox, reply_packet, reply_packets, end_behind, left_end, outbox_after, request_packets}
+use Rattle.channel_model.specs.Parts.{FirstPart, LaterPart, LaterParts, OwnParts, DeliveryPart, after_outbox, reply_packet, reply_packets, end_after, left_end, outbox_after, request_packets}
 use Rattle.channel_model.specs.Names.{without_name}
 use Rattle.channel_model.specs.Phases.{Phase, manager_of}
 use Rattle.channel_model.specs.Returns as return
@@ -48,7 +49,7 @@ module _ (schema : Schema) (side : Side) where
   body-on m (Fault reason) here there n c f h = f n c h
   body-on m Goodbye here there n c f h = f n c h
 
-  -- packets in order, and others that go on from them
+  -- packets in order, and others that continue them
   pub order-append : (ps qs : List Packet) (last constructors final built n c : ℕ) → InOrder schema side qs final built last constructors → InOrder schema side ps last constructors n c → InOrder schema side (ps ++ qs) final built n c
   order-append [] qs last constructors final built n c k h = subst (λ (x : ℕ). InOrder schema side qs final built x c) (sym h.0) (subst (λ (y : ℕ). InOrder schema side qs final built last y) (sym h.1) k)
   order-append (message m ∷ ps) qs last constructors final built n c k h =
@@ -65,7 +66,7 @@ reply-no_request : (a : Answer) → NoRequest (body_of a)
 reply-no_request (answer.Ok vs) = tt
 reply-no_request (answer.Fault reason) = tt
 
--- What a part puts behind all that is on the way, with the counts that it leaves; an end that is not open does not open.
+-- What a part adds after all that is on the way, with the counts after it; an end that is not open does not open.
 pub record Posts (schema : Schema) (e : End) (ps : List Packet) (f : End) : Type 0 where
   pub news : List Packet
   pub posted : ps ++ map message f.outbox ≡ map message e.outbox ++ news
@@ -88,7 +89,7 @@ module _ (schema : Schema) where
     opened = λ o. a.opened (b.opened o);
   }
 
-  -- what an end counts, with its outbox
+  -- the counts of an end, with its outbox
   record Same (e f : End) : Type 0 where
     side_is : f.side ≡ e.side
     sent_is : f.sent ≡ e.sent
@@ -110,10 +111,10 @@ module _ (schema : Schema) where
   }
 
   -- a packet without a request is put
-  posts-message : (e f : End) (m : Message) → NoRequest m.body → f.outbox ≡ [] → Same e f → Posts schema e (behind_outbox e (message m)) f
+  posts-message : (e f : End) (m : Message) → NoRequest m.body → f.outbox ≡ [] → Same e f → Posts schema e (after_outbox e (message m)) f
   posts-message e f m none out s = record {
     news = message m ∷ [];
-    posted = ap (λ (l : List Message). behind_outbox e (message m) ++ map message l) out ∙ append-nil (behind_outbox e (message m));
+    posted = ap (λ (l : List Message). after_outbox e (message m) ++ map message l) out ∙ append-nil (after_outbox e (message m));
     order = no-request schema e.side m m.body (InOrder schema e.side [] f.sent f.constructors_sent) e.sent e.constructors_sent none (sym s.sent_is, sym s.made_is);
     side_is = s.side_is;
     delivered_is = s.delivered_is;
@@ -121,10 +122,10 @@ module _ (schema : Schema) where
     opened = s.opened;
   }
 
-  posts-mark : (e f : End) → f.outbox ≡ [] → Same e f → Posts schema e (behind_outbox e mark) f
+  posts-mark : (e f : End) → f.outbox ≡ [] → Same e f → Posts schema e (after_outbox e mark) f
   posts-mark e f out s = record {
     news = mark ∷ [];
-    posted = ap (λ (l : List Message). behind_outbox e mark ++ map message l) out ∙ append-nil (behind_outbox e mark);
+    posted = ap (λ (l : List Message). after_outbox e mark ++ map message l) out ∙ append-nil (after_outbox e mark);
     order = (sym s.sent_is, sym s.made_is);
     side_is = s.side_is;
     delivered_is = s.delivered_is;
@@ -132,15 +133,15 @@ module _ (schema : Schema) where
     opened = s.opened;
   }
 
-  -- an answer, where there is one
-  posts-reply : (b : Bool) (e : End) (q : AnsweredRequest) (a : Answer) → Posts schema e (reply_packets b e q a) (end_behind b e)
-  posts-reply true e q a = posts-message e (end_behind true e) (reply_to q (body_of a)) (reply-no_request a) refl (record { side_is = refl; sent_is = refl; made_is = refl; delivered_is = refl; constructors_is = refl; opened = λ o. o })
+  -- an answer, if there is one
+  posts-reply : (b : Bool) (e : End) (q : AnsweredRequest) (a : Answer) → Posts schema e (reply_packets b e q a) (end_after b e)
+  posts-reply true e q a = posts-message e (end_after true e) (reply_to q (body_of a)) (reply-no_request a) refl (record { side_is = refl; sent_is = refl; made_is = refl; delivered_is = refl; constructors_is = refl; opened = λ o. o })
   posts-reply false e q a = posts-none e e refl (record { side_is = refl; sent_is = refl; made_is = refl; delivered_is = refl; constructors_is = refl; opened = λ o. o })
 
-  -- a part that changes nothing of this, and then an answer
-  posts-behind : (b : Bool) (e f : End) (q : AnsweredRequest) (a : Answer) → f.outbox ≡ e.outbox → Same e f → Posts schema e (reply_packets b e q a) (end_behind b f)
-  posts-behind true e f q a out s = posts-message e (end_behind true f) (reply_to q (body_of a)) (reply-no_request a) refl (record { side_is = s.side_is; sent_is = s.sent_is; made_is = s.made_is; delivered_is = s.delivered_is; constructors_is = s.constructors_is; opened = s.opened })
-  posts-behind false e f q a out s = posts-none e f out s
+  -- a part that changes none of this, followed by an answer
+  posts-following : (b : Bool) (e f : End) (q : AnsweredRequest) (a : Answer) → f.outbox ≡ e.outbox → Same e f → Posts schema e (reply_packets b e q a) (end_after b f)
+  posts-following true e f q a out s = posts-message e (end_after true f) (reply_to q (body_of a)) (reply-no_request a) refl (record { side_is = s.side_is; sent_is = s.sent_is; made_is = s.made_is; delivered_is = s.delivered_is; constructors_is = s.constructors_is; opened = s.opened })
+  posts-following false e f q a out s = posts-none e f out s
 
   answer-no_request : (vs : Option Values) → NoRequest (answering.answer_body vs)
   answer-no_request None = tt
@@ -174,34 +175,34 @@ module _ (schema : Schema) where
 
       by : (lazy sync wants : Bool) → Posts schema e (request_packets lazy e (send.request_of e row route vs)) (record e { sent = e.sent + 1; constructors_sent = counting row.kind e.constructors_sent; outbox = outbox_after lazy (send.request_of e row route vs) e.outbox; stack = cond sync (send.wait_for row (send.request_of e row route vs) ∷ e.stack) e.stack; promises = cond wants (e.promises ++ Parts.promise_for (send.request_of e row route vs) ∷ []) e.promises })
       by true sync wants = record { news = message (send.request_of e row route vs) ∷ []; posted = map-append message e.outbox (send.request_of e row route vs ∷ []); order = (next, (refl, refl)); side_is = refl; delivered_is = refl; constructors_is = refl; opened = λ o. o }
-      by false sync wants = record { news = message (send.request_of e row route vs) ∷ []; posted = append-nil (behind_outbox e (message (send.request_of e row route vs))); order = (next, (refl, refl)); side_is = refl; delivered_is = refl; constructors_is = refl; opened = λ o. o }
+      by false sync wants = record { news = message (send.request_of e row route vs) ∷ []; posted = append-nil (after_outbox e (message (send.request_of e row route vs))); order = (next, (refl, refl)); side_is = refl; delivered_is = refl; constructors_is = refl; opened = λ o. o }
   first-posts {e} (Parts.answers by vs r row found may accepted used) = posts-message e (record (answering.without_resolver by e) { outbox = [] }) (reply_to (resolver_answered r) (answering.answer_body vs)) (answer-no_request vs) refl (without-same by e)
   first-posts {e} (Parts.closes o waits) = posts-message e (Parts.shut_end (record e { outbox = [] })) goodbye tt refl (record { side_is = refl; sent_is = refl; made_is = refl; delivered_is = refl; constructors_is = refl; opened = λ o. cc })
   first-posts {e} (Parts.dies o) = posts-mark e (record e { state = Dead; stack = []; arrived = []; outbox = [] }) refl (record { side_is = refl; sent_is = refl; made_is = refl; delivered_is = refl; constructors_is = refl; opened = λ o. cc })
   first-posts {e} (Parts.dies_silent o alive) = posts-none e (record e { state = Dead; stack = []; arrived = [] }) refl (record { side_is = refl; sent_is = refl; made_is = refl; delivered_is = refl; constructors_is = refl; opened = λ o. cc })
   first-posts {e} (Parts.takes m sync level row vs next body found stays) = posts-none e (record (left_end e) { stack = take.dispatch_of row m ∷ e.stack }) refl (record { side_is = refl; sent_is = refl; made_is = refl; delivered_is = refl; constructors_is = refl; opened = λ o. o })
-  first-posts {e} (Parts.drops m sync level row vs id replies next body found gone is) = posts-behind replies e (left_end e) (request_answered m) (answer.Fault ActorDestroyed) refl (record { side_is = refl; sent_is = refl; made_is = refl; delivered_is = refl; constructors_is = refl; opened = λ o. o })
+  first-posts {e} (Parts.drops m sync level row vs id replies next body found gone is) = posts-following replies e (left_end e) (request_answered m) (answer.Fault ActorDestroyed) refl (record { side_is = refl; sent_is = refl; made_is = refl; delivered_is = refl; constructors_is = refl; opened = λ o. o })
   first-posts {e} (Parts.drops_unknown m sync level vs next body found) = posts-none e (left_end e) refl (record { side_is = refl; sent_is = refl; made_is = refl; delivered_is = refl; constructors_is = refl; opened = λ o. o })
   first-posts {e} (Parts.takes_reply m sync level a next body settles) = posts-none e (left_end e) refl (record { side_is = refl; sent_is = refl; made_is = refl; delivered_is = refl; constructors_is = refl; opened = λ o. o })
   first-posts {e} (Parts.settles m sync level row a next body found is) =
       posts-none e (record (left_end e) { promises = map (take.settled_entry m.seq (Parts.reply_outcome schema e row a)) e.promises }) refl (record { side_is = refl; sent_is = refl; made_is = refl; delivered_is = refl; constructors_is = refl; opened = λ o. o })
   first-posts {e} (Parts.shuts last next is) = posts-none e (Parts.shut_end e) refl (record { side_is = refl; sent_is = refl; made_is = refl; delivered_is = refl; constructors_is = refl; opened = λ o. cc })
   first-posts {e} (Parts.returns entry row vs told lost is t l) =
-      posts-then e (end_behind told (record e { stack = drop 1 e.stack })) (end_behind lost (end_behind told (record e { stack = drop 1 e.stack }))) (reply_packets told e (return.dispatch_answered entry) (return.return_answer schema e row entry vs)) (reply_packets lost (end_behind told e) (resolver_answered (answering.resolver_in entry)) (answer.Fault ResolverDestroyed))
-      (posts-behind told e (record e { stack = drop 1 e.stack }) (return.dispatch_answered entry) (return.return_answer schema e row entry vs) refl (record { side_is = refl; sent_is = refl; made_is = refl; delivered_is = refl; constructors_is = refl; opened = λ o. o }))
+      posts-then e (end_after told (record e { stack = drop 1 e.stack })) (end_after lost (end_after told (record e { stack = drop 1 e.stack }))) (reply_packets told e (return.dispatch_answered entry) (return.return_answer schema e row entry vs)) (reply_packets lost (end_after told e) (resolver_answered (answering.resolver_in entry)) (answer.Fault ResolverDestroyed))
+      (posts-following told e (record e { stack = drop 1 e.stack }) (return.dispatch_answered entry) (return.return_answer schema e row entry vs) refl (record { side_is = refl; sent_is = refl; made_is = refl; delivered_is = refl; constructors_is = refl; opened = λ o. o }))
       (lost-posts told)
     where
-      lost-posts : (told : Bool) → Posts schema (end_behind told (record e { stack = drop 1 e.stack })) (reply_packets lost (end_behind told e) (resolver_answered (answering.resolver_in entry)) (answer.Fault ResolverDestroyed)) (end_behind lost (end_behind told (record e { stack = drop 1 e.stack })))
+      lost-posts : (told : Bool) → Posts schema (end_after told (record e { stack = drop 1 e.stack })) (reply_packets lost (end_after told e) (resolver_answered (answering.resolver_in entry)) (answer.Fault ResolverDestroyed)) (end_after lost (end_after told (record e { stack = drop 1 e.stack })))
       lost-posts true = posts-lost lost
         where
-          posts-lost : (lost : Bool) → Posts schema (end_behind true (record e { stack = drop 1 e.stack })) (reply_packets lost (end_behind true e) (resolver_answered (answering.resolver_in entry)) (answer.Fault ResolverDestroyed)) (end_behind lost (end_behind true (record e { stack = drop 1 e.stack })))
-          posts-lost true = posts-reply true (end_behind true (record e { stack = drop 1 e.stack })) (resolver_answered (answering.resolver_in entry)) (answer.Fault ResolverDestroyed)
-          posts-lost false = posts-reply false (end_behind true (record e { stack = drop 1 e.stack })) (resolver_answered (answering.resolver_in entry)) (answer.Fault ResolverDestroyed)
+          posts-lost : (lost : Bool) → Posts schema (end_after true (record e { stack = drop 1 e.stack })) (reply_packets lost (end_after true e) (resolver_answered (answering.resolver_in entry)) (answer.Fault ResolverDestroyed)) (end_after lost (end_after true (record e { stack = drop 1 e.stack })))
+          posts-lost true = posts-reply true (end_after true (record e { stack = drop 1 e.stack })) (resolver_answered (answering.resolver_in entry)) (answer.Fault ResolverDestroyed)
+          posts-lost false = posts-reply false (end_after true (record e { stack = drop 1 e.stack })) (resolver_answered (answering.resolver_in entry)) (answer.Fault ResolverDestroyed)
       lost-posts false = posts-lost lost
         where
-          posts-lost : (lost : Bool) → Posts schema (end_behind false (record e { stack = drop 1 e.stack })) (reply_packets lost (end_behind false e) (resolver_answered (answering.resolver_in entry)) (answer.Fault ResolverDestroyed)) (end_behind lost (end_behind false (record e { stack = drop 1 e.stack })))
-          posts-lost true = posts-reply true (end_behind false (record e { stack = drop 1 e.stack })) (resolver_answered (answering.resolver_in entry)) (answer.Fault ResolverDestroyed)
-          posts-lost false = posts-reply false (end_behind false (record e { stack = drop 1 e.stack })) (resolver_answered (answering.resolver_in entry)) (answer.Fault ResolverDestroyed)
+          posts-lost : (lost : Bool) → Posts schema (end_after false (record e { stack = drop 1 e.stack })) (reply_packets lost (end_after false e) (resolver_answered (answering.resolver_in entry)) (answer.Fault ResolverDestroyed)) (end_after lost (end_after false (record e { stack = drop 1 e.stack })))
+          posts-lost true = posts-reply true (end_after false (record e { stack = drop 1 e.stack })) (resolver_answered (answering.resolver_in entry)) (answer.Fault ResolverDestroyed)
+          posts-lost false = posts-reply false (end_after false (record e { stack = drop 1 e.stack })) (resolver_answered (answering.resolver_in entry)) (answer.Fault ResolverDestroyed)
   first-posts {e} (Parts.resumes wait row on_top found) = posts-none e (record e { stack = drop 1 e.stack }) refl (record { side_is = refl; sent_is = refl; made_is = refl; delivered_is = refl; constructors_is = refl; opened = λ o. o })
 
   later-posts : {p q : Phase} {e f : End} {ws : List What} {ps : List Packet} → LaterPart p e ws ps f q → Posts schema e ps f
@@ -222,7 +223,7 @@ module _ (schema : Schema) where
   pub own-posts : {q : Phase} {e f : End} {ws : List What} {ps : List Packet} → OwnParts schema e ws ps f q → Posts schema e ps f
   own-posts {e} {f} (Parts.begun {f = g} {ps} {qs} part rest ended) = posts-then e g f ps qs (first-posts part) (laters-post rest)
 
-  -- What a delivery posts, as of the end with the counts behind it
+  -- What a delivery sends, for the end with the counts after it
   abbrev pub counted_end : End → End → End
   counted_end e f = record e { delivered = f.delivered; constructors_delivered = f.constructors_delivered }
 
@@ -233,9 +234,9 @@ module _ (schema : Schema) where
       next : End
       next = delivery.counted row (delivery.item_of row m) e
 
-      by : (b : Bool) → Posts schema (counted_end e (end_behind b (delivery.counted row (delivery.item_of row m) e))) (reply_packets b e (request_answered old) (answer.Fault ResolverDestroyed)) (end_behind b (delivery.counted row (delivery.item_of row m) e))
-      by true = posts-behind true (counted_end e next) next (request_answered old) (answer.Fault ResolverDestroyed) refl (record { side_is = refl; sent_is = refl; made_is = refl; delivered_is = refl; constructors_is = refl; opened = λ o. o })
-      by false = posts-behind false (counted_end e next) next (request_answered old) (answer.Fault ResolverDestroyed) refl (record { side_is = refl; sent_is = refl; made_is = refl; delivered_is = refl; constructors_is = refl; opened = λ o. o })
+      by : (b : Bool) → Posts schema (counted_end e (end_after b (delivery.counted row (delivery.item_of row m) e))) (reply_packets b e (request_answered old) (answer.Fault ResolverDestroyed)) (end_after b (delivery.counted row (delivery.item_of row m) e))
+      by true = posts-following true (counted_end e next) next (request_answered old) (answer.Fault ResolverDestroyed) refl (record { side_is = refl; sent_is = refl; made_is = refl; delivered_is = refl; constructors_is = refl; opened = λ o. o })
+      by false = posts-following false (counted_end e next) next (request_answered old) (answer.Fault ResolverDestroyed) refl (record { side_is = refl; sent_is = refl; made_is = refl; delivered_is = refl; constructors_is = refl; opened = λ o. o })
   delivery-posts {e} (Parts.gets_answer m row a body found sync) l = posts-none e (delivery.answers_wait a e) refl (record { side_is = refl; sent_is = refl; made_is = refl; delivered_is = refl; constructors_is = refl; opened = λ o. o })
   delivery-posts {e} (Parts.gets_reply m row a body found sync) l = posts-none e (delivery.arrives (delivery.item_of row m) e) refl (record { side_is = refl; sent_is = refl; made_is = refl; delivered_is = refl; constructors_is = refl; opened = λ o. o })
   delivery-posts {packet} (Parts.drains _ is) l = absurd-last packet is l

@@ -1,4 +1,4 @@
--- A call goes on with what the other end answered, or with the fault by which it failed.
+-- A call continues with what the other end answered, or with the fault by which it failed.
 use Rattle.std.proofs.Common.{◌≡◌, ℕ, ℤ, Bool, true, false, if◌then◌else◌, List, [], ◌∷◌, Option, Some, None, is_some, refl, sym, ap, subst, ◌∙◌}
 use Rattle.std.specs.List.{AllByRecursion}
 use Rattle.std.specs.Option.{option_map_or}
@@ -81,7 +81,7 @@ module _ (schema : Schema) (h others : EndReading) where
   fault-given side failed n r same (was_said i) = ap (λ (b : Bool). if b then true else is_own_fault schema h others n r) (says-passes side (is_fault r) n (told.fault r) others.sent i (reason-same r))
   fault-given side _ n ChannelClosed same (has_failed e) = fails-by n ChannelClosed (told.says (is_fault ChannelClosed) others.sent n) refl (λ no. ap (λ (f : List ℤ). has f n) (sym same) ∙ e)
 
-  -- values that were answered: with null in the place of dead actors, or as a fault where one is missing
+  -- the values of an answer: with null in the place of dead actors, or a fault if an actor is missing
   ok-given : (side : Side) (e : End) (n : ℤ) (row : MessageRow) (vs : Values) → IsGiven (told_notes side others.sent) h.failed n (answer.Ok vs) → own_returns schema h n ≡ returns_of_row row → AllByRecursion (LivesAlike e.actors (lives h)) (actors_in_parts schema (returns_of_row row) vs)
       → (b : Bool) → is_some (missing schema e.actors (returns_of_row row) vs) ≡ b
       → waits_line schema h others (return.resume_line n (if b then answer.Fault ActorDestroyed else answer.Ok (nulled schema e.actors (returns_of_row row) vs))) ≡ true
@@ -94,7 +94,7 @@ module _ (schema : Schema) (h others : EndReading) where
       (ap (λ (types : List ParamRow). same_values (nulled_fields schema (lives h) types vs) (nulled schema e.actors (returns_of_row row) vs)) returns
       ∙ (ap (λ (us : Values). same_values us (nulled schema e.actors (returns_of_row row) vs)) (values_are_read_alike.nulled schema e.actors (lives h) (returns_of_row row) vs alike) ∙ values-same (nulled schema e.actors (returns_of_row row) vs)))
 
--- Who lives in the values of an answer is read alike.
+-- The actors that live in the values of an answer are read alike.
 abbrev pub AnswersAreAlike : Schema → End → EndReading → Type 0
 AnswersAreAlike schema e h =
     (wait : return.AnsweredWait) (row : MessageRow) (vs : Values) → return.answered_wait_on_top e.stack ≡ Some wait → request_row schema wait.number ≡ Some row → wait.given ≡ answer.Ok vs → AllByRecursion (LivesAlike e.actors (lives h)) (actors_in_parts schema (returns_of_row row) vs)

@@ -1,4 +1,4 @@
--- Handlers that return, calls that go on and the outbox, at an open end.
+-- Handlers that return, calls that continue and the outbox, at an open end.
 use Rattle.std.proofs.Common.{◌≡◌, ℕ, ◌+◌, ℤ, Bool, true, false, List, [], ◌∷◌, drop, Option, Some, None, refl, sym, ap, subst, ◌∙◌}
 use Rattle.std.proofs.lemmas.Option.{same_Some}
 use Rattle.std.specs.List.{AllByRecursion}
@@ -31,7 +31,7 @@ use Rattle.channel_laws.specs.Rows.{HasSoundRows}
 
 -- Handlers that return
 
--- what is shown below a dispatch that comes off
+-- what is shown below a dispatch that is removed
 data BelowDispatch (side : Side) (head : Head) (route : ℤ) (number : ℕ) (entries : List StackEntry) : List SyncFrame → Type 0 where
   was_sync : {below : List SyncFrame} → head.sync ≡ true → Shows side entries below → BelowDispatch side head route number entries (dispatch (call_of_head route number head) ∷ below)
   was_async : {stack : List SyncFrame} → head.sync ≡ false → Shows side entries stack → BelowDispatch side head route number entries stack
@@ -41,7 +41,7 @@ popped side (no_cpow (no_answer (async_base s n))) = was_async s (no_cpow (no_an
 popped side (no_cpow (no_answer (handles s p))) = was_sync s (no_cpow (no_answer p))
 popped side (cpow_on_top s e a) = was_async s (no_cpow a)
 
--- the entry on top, where it is a dispatch
+-- the entry on top, if it is a dispatch
 record IsOnTop (stack : List StackEntry) (entry : StackEntry) : Type 0 where
   head : Head
   frame : entry.frame ≡ Dispatch head
@@ -75,7 +75,7 @@ module _ (schema : Schema) (rows : HasSoundRows schema) (e : End) (stack : List 
   entry-agree : EntryAgrees schema entry
   entry-agree = subst (λ (f : StackFrame). EntryAgrees schema (entry_of f entry.route entry.number entry.resolves)) (sym there.frame) (subst (AllByRecursion (EntryAgrees schema)) there.whole h.entries).0
 
-  -- whether the row is sync says the frame
+  -- the frame shows whether the row is sync
   row-sync : is_sync_row row ≡ there.head.sync
   row-sync =
       let f = entry-agree in
@@ -120,7 +120,7 @@ module _ (schema : Schema) (rows : HasSoundRows schema) (e : End) (stack : List 
   pub returned : SyncStep schema e stack link link (returns.return schema e row entry vs (beginning e))
   returned = return-shown below-shown refl
 
--- Calls that go on
+-- Calls that continue
 
 resumed_at : (side : Side) {head : Head} {a : Answer} {route : ℤ} {number : ℕ} {resolves : Bool} {entries : List StackEntry} {stack : List SyncFrame} → Shows side (entry_of (Wait head (Some a)) route number resolves ∷ entries) stack → Shows side entries stack
 resumed_at side (no_cpow (no_answer p)) = elim p [ ]

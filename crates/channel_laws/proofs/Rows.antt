@@ -1,4 +1,4 @@
--- What a sound schema says of rows.
+-- What the soundness of a schema implies for rows.
 use Rattle.std.proofs.Common.{◌≡◌, ◌≢◌, ℕ, ◌+◌, ◌/◌, ◌%◌, Bool, true, false, ◌||◌, Option, Some, is_some, refl, sym, ap, ◌∙◌, arith}
 use Rattle.std.specs.List.{slice_get}
 use Rattle.std.specs.Option.{option_map_or}
@@ -15,7 +15,8 @@ use Rattle.ipdl_base.specs.declared.schema.MessageRow.{MessageRow}
 use Rattle.ipdl_base.specs.declared.schema.Schema.{Schema}
 use Rattle.ipdl_base.specs.Sound.{IsSound, is_sync, has_reply, message_of}
 use Rattle.ipdl_base.proofs.Numbers.{no_reply}
-use Rattle.channel_model.specs.Numbers.{sends, is_sync_row, request_row}
+use Rattle.ipdl_base.specs.Sides.{sends}
+use Rattle.channel_model.specs.Numbers.{is_sync_row, request_row}
 use Rattle.channel_model.proofs.SendParts.{request-number}
 use Rattle.channel_model.proofs.SoundRows.{IsAt, row-at, reply-row}
 use Rattle.channel_laws.specs.SyncCalls.{is_sync_number}

@@ -1,5 +1,5 @@
--- What every move keeps beside the reading holds in every run, and the lines of every run pass what the lines of every
--- move pass.
+-- What every move keeps besides the reading is true in every run, and the lines of every run pass what the lines of
+-- every move pass.
 use Rattle.std.proofs.Common.{◌≡◌, ℕ, Bool, true, if◌then◌else◌, List, [], ◌∷◌, ◌++◌, map, Option, Some, None, refl, sym, ap, subst, ◌∙◌}
 use Rattle.std.specs.List.{AllByRecursion}
 use Rattle.std.proofs.lemmas.List.{append-nil}
@@ -15,7 +15,7 @@ use Rattle.history_reading.specs.Reading.{Reading, after, end_reading_of, other_
 use Rattle.channel_model.specs.Ends.{End, World, end_of, link_to, opening}
 use Rattle.channel_model.specs.EventLines.{IsEventWithEffects, IsEffectOf}
 use Rattle.channel_model.specs.Events.{Event, Move}
-use Rattle.channel_model.specs.Numbers.{other}
+use Rattle.ipdl_base.specs.Sides.{other}
 use Rattle.channel_model.specs.Outputs.{Output, line_at}
 use Rattle.channel_model.specs.Runs.{RunState, output_of, passed_by, happens, run, history_of, world_after, after_event}
 use Rattle.channel_model.specs.Laws.{MovesFollow}
@@ -45,22 +45,22 @@ pub record RunMove (schema : Schema) (move : Move) (w : World) (r : Reading) (ou
   pub ends : SideMove schema move.side w r move.event output
   pub reads_after : ReadingIs schema (world_after move output w) (read_from schema r output.lines)
 
--- A world is kept so behind a move, and the lines of the move pass a test.
+-- After a move a world keeps this, and the lines of the move pass a test.
 pub record MoveKeeps (schema : Schema) (Kept : World → Reading → Type 0) (test : Reading → Line → List Line → Bool) (move : Move) (w : World) (r : Reading) (output : Output) : Type 0 where
   pub kept : Kept (world_after move output w) (read_from schema r output.lines)
-  pub passes : (behind : List Line) → LinesPass schema test r output.lines behind
+  pub passes : (following : List Line) → LinesPass schema test r output.lines following
 
 -- every move does so
 abbrev pub EveryMoveKeeps : Schema → (World → Reading → Type 0) → (Reading → Line → List Line → Bool) → Type 0
 EveryMoveKeeps schema Kept test = (move : Move) (w : World) (r : Reading) (output : Output) → RunMove schema move w r output → Kept w r → MoveKeeps schema Kept test move w r output
 
--- The reading of a world behind lines, which pass a test.
+-- The reading of a world after lines, which pass a test.
 pub record RunKeeps (schema : Schema) (Kept : World → Reading → Type 0) (test : Reading → Line → List Line → Bool) (w : World) (r : Reading) (lines : List Line) : Type 0 where
   pub reads : ReadingIs schema w (read_from schema r lines)
   pub kept : Kept w (read_from schema r lines)
-  pub passes : (behind : List Line) → LinesPass schema test r lines behind
+  pub passes : (following : List Line) → LinesPass schema test r lines following
 
--- The reading behind a move
+-- The reading after a move
 
 same-side : (a b : Side) → other a ≡ other b → a ≡ b
 same-side a b e = sym (other-other a) ∙ (ap other e ∙ other-other b)
@@ -69,21 +69,21 @@ pub side-lines : (mine : End) (side : Side) (lines : List Line) (whats : List Wh
 side-lines mine side lines whats is e = e ∙ ap (λ (s : Side). map (line_at s) whats) is
 
 module _ (schema : Schema) where
-  read-behind : (side : Side) (ev : Event) (w : World) (r : Reading) (output : Output) → IsNestedWorld schema w → ReadingIs schema w r → SideMove schema side w r ev output → ReadingIs schema (world_after (record { side = side; event = ev }) output w) (read_from schema r output.lines)
-  read-behind Parent ev w r output n h m =
+  read-following : (side : Side) (ev : Event) (w : World) (r : Reading) (output : Output) → IsNestedWorld schema w → ReadingIs schema w r → SideMove schema side w r ev output → ReadingIs schema (world_after (record { side = side; event = ev }) output w) (read_from schema r output.lines)
+  read-following Parent ev w r output n h m =
       let lines : output.lines ≡ map (line_at Parent) m.whats = side-lines w.parent Parent output.lines m.whats h.parent m.lines in
-      let behind : Reading = read_from schema r (map (line_at Parent) m.whats) in
+      let following : Reading = read_from schema r (map (line_at Parent) m.whats) in
       subst (λ (ls : List Line). ReadingIs schema (world_after (record { side = Parent; event = ev }) output w) (read_from schema r ls)) (sym lines) (record {
         parent = m.side ∙ h.parent;
-        ends = subst (λ (x : EndReading). TwoEnds schema output.end w.child x behind.child (after_event ev w.to_parent) (w.to_child ++ output.packets)) (sym (read-own schema Parent m.whats r))
+        ends = subst (λ (x : EndReading). TwoEnds schema output.end w.child x following.child (after_event ev w.to_parent) (w.to_child ++ output.packets)) (sym (read-own schema Parent m.whats r))
             (subst (λ (x : EndReading). TwoEnds schema output.end w.child (after_whats schema r.lines m.whats r.parent) x (after_event ev w.to_parent) (w.to_child ++ output.packets)) (sym (read-other schema Parent m.whats r)) m.after);
       })
-  read-behind Child ev w r output n h m =
+  read-following Child ev w r output n h m =
       let lines : output.lines ≡ map (line_at Child) m.whats = side-lines w.child Child output.lines m.whats n.child m.lines in
-      let behind : Reading = read_from schema r (map (line_at Child) m.whats) in
+      let following : Reading = read_from schema r (map (line_at Child) m.whats) in
       subst (λ (ls : List Line). ReadingIs schema (world_after (record { side = Child; event = ev }) output w) (read_from schema r ls)) (sym lines) (record {
         parent = h.parent;
-        ends = subst (λ (x : EndReading). TwoEnds schema w.parent output.end behind.parent x (w.to_parent ++ output.packets) (after_event ev w.to_child)) (sym (read-own schema Child m.whats r))
+        ends = subst (λ (x : EndReading). TwoEnds schema w.parent output.end following.parent x (w.to_parent ++ output.packets) (after_event ev w.to_child)) (sym (read-own schema Child m.whats r))
             (subst (λ (x : EndReading). TwoEnds schema w.parent output.end x (after_whats schema r.lines m.whats r.child) (w.to_parent ++ output.packets) (after_event ev w.to_child)) (sym (read-other schema Child m.whats r)) (flip m.after));
       })
 
@@ -105,7 +105,7 @@ module _ (schema : Schema) where
       subst (λ (ls : List Line). AtEnds K (world_after (record { side = Child; event = ev }) output w) (read_from schema r ls)) (sym (side-lines w.child Child output.lines m.whats n.child m.lines))
       (subst (K w.parent) (sym (read-other schema Child m.whats r)) theirs, subst (K output.end) (sym (read-own schema Child m.whats r)) mine)
 
-  -- what both ends keep, each of itself and of what the other's lines say
+  -- what both ends keep, each of itself and of the other's lines
 
   abbrev pub AcrossEnds : (Side → EndReading → End → EndReading → Type 0) → World → Reading → Type 0
   AcrossEnds K w r = K Child r.child w.parent r.parent × K Parent r.parent w.child r.child
@@ -136,10 +136,10 @@ module _ (schema : Schema) where
       )
 
   -- and tests of an end's lines
-  pub ends-pass : (test : EndReading → EndReading → What → Bool) (side : Side) (ev : Event) (w : World) (r : Reading) (output : Output) (behind : List Line) → IsNestedWorld schema w → (m : SideMove schema side w r ev output)
-      → EndLinesPass schema (λ own said. test own (other_of side r) said ≡ true) r.lines m.whats (end_reading_of side r) → LinesPass schema (test_at test) r output.lines behind
-  ends-pass test side ev w r output behind n m p =
-      subst (λ (ls : List Line). LinesPass schema (test_at test) r ls behind) (sym (side-lines (end_of side w) side output.lines m.whats (end-side schema side w n) m.lines)) (pass-lines schema test side m.whats r behind p)
+  pub ends-pass : (test : EndReading → EndReading → What → Bool) (side : Side) (ev : Event) (w : World) (r : Reading) (output : Output) (following : List Line) → IsNestedWorld schema w → (m : SideMove schema side w r ev output)
+      → EndLinesPass schema (λ own said. test own (other_of side r) said ≡ true) r.lines m.whats (end_reading_of side r) → LinesPass schema (test_at test) r output.lines following
+  ends-pass test side ev w r output following n m p =
+      subst (λ (ls : List Line). LinesPass schema (test_at test) r ls following) (sym (side-lines (end_of side w) side output.lines m.whats (end-side schema side w n) m.lines)) (pass-lines schema test side m.whats r following p)
 
 -- Runs
 
@@ -157,15 +157,15 @@ reached-next schema move w r h =
 
 module _ (schema : Schema) (sound : IsSound schema) (Kept : World → Reading → Type 0) (test : Reading → Line → List Line → Bool) (keeps : EveryMoveKeeps schema Kept test) where
   move-keeps : (move : Move) (w : World) (r : Reading) (found : Option Output) → output_of schema w move ≡ found → IsReached schema w r → IsNestedWorld schema w → ReadingIs schema w r → Kept w r → RunKeeps schema Kept test (passed_by found move w).world r (passed_by found move w).lines
-  move-keeps move w r None is reached n h k = record { reads = h; kept = k; passes = λ behind. tt }
+  move-keeps move w r None is reached n h k = record { reads = h; kept = k; passes = λ following. tt }
   move-keeps move w r (Some output) is reached n h k =
       let m : SideMove schema move.side w r move.event output = side-move schema (sound_schemas_have_sound_rows schema sound) move.side move.event w r output n h is in
-      let after : ReadingIs schema (world_after move output w) (read_from schema r output.lines) = read-behind schema move.side move.event w r output n h m in
+      let after : ReadingIs schema (world_after move output w) (read_from schema r output.lines) = read-following schema move.side move.event w r output n h m in
       let a : MoveKeeps schema Kept test move w r output = keeps move w r output (record { reached = reached; step = is; nested = n; reads = h; ends = m; reads_after = after }) k in
       record { reads = after; kept = a.kept; passes = a.passes }
 
   run-keeps : (moves : List Move) (w : World) (r : Reading) → IsReached schema w r → IsNestedWorld schema w → ReadingIs schema w r → Kept w r → RunKeeps schema Kept test (run schema moves w).world r (run schema moves w).lines
-  run-keeps [] w r reached n h k = record { reads = h; kept = k; passes = λ behind. tt }
+  run-keeps [] w r reached n h k = record { reads = h; kept = k; passes = λ following. tt }
   run-keeps (move ∷ moves) w r reached n h k =
       let next : RunState = happens schema w move in
       let rest : RunState = run schema moves next.world in
@@ -174,7 +174,7 @@ module _ (schema : Schema) (sound : IsSound schema) (Kept : World → Reading �
       record {
         reads = subst (ReadingIs schema rest.world) (sym (read-append schema next.lines rest.lines r)) b.reads;
         kept = subst (Kept rest.world) (sym (read-append schema next.lines rest.lines r)) b.kept;
-        passes = λ behind. pass-append schema test r next.lines rest.lines behind (a.passes (rest.lines ++ behind)) (b.passes behind);
+        passes = λ following. pass-append schema test r next.lines rest.lines following (a.passes (rest.lines ++ following)) (b.passes following);
       }
 
   opening-read : (top : ℕ) → ReadingIs schema (opening top) opening_reading
@@ -193,23 +193,23 @@ module _ (schema : Schema) (sound : IsSound schema) (Kept : World → Reading �
     };
   }
 
-  -- What every move keeps, and holds at the opening, holds in every run, whose lines pass.
+  -- What every move keeps, and is true at the opening, is true in every run, whose lines pass.
   pub every-run : (top : ℕ) (moves : List Move) → Kept (opening top) opening_reading → RunKeeps schema Kept test (run schema moves (opening top)).world opening_reading (history_of schema top moves)
   every-run top moves k = run-keeps moves (opening top) opening_reading (record { top = top; front = []; world = refl; reading = refl }) (nested_worlds_stay.opening schema top) (opening-read top) k
 
 -- Moments: what is read before each event passes a test, where all that is kept does
 
 abbrev pub moment_at : (Reading → Bool) → Reading → Line → List Line → Bool
-moment_at moment reading line behind = if is_effect line.what then true else moment reading
+moment_at moment reading line following = if is_effect line.what then true else moment reading
 
-effects-pass : (schema : Schema) (moment : Reading → Bool) (side : Side) (lines : List Line) (r : Reading) (behind : List Line) → AllByRecursion (IsEffectOf side) lines → LinesPass schema (moment_at moment) r lines behind
-effects-pass schema moment side [] r behind a = tt
-effects-pass schema moment side (l ∷ ls) r behind a = (ap (λ (b : Bool). if b then true else moment r) a.0.1, effects-pass schema moment side ls (after schema r l) behind a.1)
+effects-pass : (schema : Schema) (moment : Reading → Bool) (side : Side) (lines : List Line) (r : Reading) (following : List Line) → AllByRecursion (IsEffectOf side) lines → LinesPass schema (moment_at moment) r lines following
+effects-pass schema moment side [] r following a = tt
+effects-pass schema moment side (l ∷ ls) r following a = (ap (λ (b : Bool). if b then true else moment r) a.0.1, effects-pass schema moment side ls (after schema r l) following a.1)
 
-event-passes : (schema : Schema) (moment : Reading → Bool) (side : Side) (lines : List Line) (r : Reading) (behind : List Line) → IsEventWithEffects side lines → moment r ≡ true → LinesPass schema (moment_at moment) r lines behind
-event-passes schema moment side [] r behind a is = absurd a
-event-passes schema moment side (l ∷ ls) r behind a is = (ap (λ (b : Bool). if b then true else moment r) a.0.1 ∙ is, effects-pass schema moment side ls (after schema r l) behind a.1)
+event-passes : (schema : Schema) (moment : Reading → Bool) (side : Side) (lines : List Line) (r : Reading) (following : List Line) → IsEventWithEffects side lines → moment r ≡ true → LinesPass schema (moment_at moment) r lines following
+event-passes schema moment side [] r following a is = absurd a
+event-passes schema moment side (l ∷ ls) r following a is = (ap (λ (b : Bool). if b then true else moment r) a.0.1 ∙ is, effects-pass schema moment side ls (after schema r l) following a.1)
 
-pub moments-pass : (schema : Schema) (moment : Reading → Bool) (move : Move) (w : World) (r : Reading) (output : Output) (behind : List Line) → output_of schema w move ≡ Some output → moment r ≡ true → LinesPass schema (moment_at moment) r output.lines behind
-moments-pass schema moment move w r output behind is passes =
-    event-passes schema moment (end_of move.side w).side output.lines r behind (events_have_their_lines schema (end_of move.side w) (link_to move.side w) move.event output is).lines passes
+pub moments-pass : (schema : Schema) (moment : Reading → Bool) (move : Move) (w : World) (r : Reading) (output : Output) (following : List Line) → output_of schema w move ≡ Some output → moment r ≡ true → LinesPass schema (moment_at moment) r output.lines following
+moments-pass schema moment move w r output following is passes =
+    event-passes schema moment (end_of move.side w).side output.lines r following (events_have_their_lines schema (end_of move.side w) (link_to move.side w) move.event output is).lines passes

@@ -1,4 +1,4 @@
--- What is noted of a reply was said by the lines.
+-- A reply that is noted was sent, by the lines.
 use Rattle.std.proofs.Common.{◌≡◌, ℤ, Bool, true, false, ◌&&◌, ◌||◌, int_eq, List, [], ◌∷◌, refl, sym, ap, ◌∙◌}
 use Rattle.std.specs.List.{list_any}
 use Rattle.std.proofs.lemmas.Bool.Decides.{Decides-int_eq}
@@ -34,6 +34,6 @@ said-at side test n c (t ∷ sent) _ e here p = here-said (is_said test n t) (li
 said-at side test n c [] _ e (there i) p = cc
 said-at side test n c (t ∷ sent) _ e (there {xs = ns} i) p = later-said (is_said test n t) (list_any (is_said test n) sent) (said-at side test n c sent ns (let x : ns ≡ told_notes side sent = cc in x) i p)
 
--- a reply with a content that passes was said
+-- a reply with a content that passes was sent
 pub says-passes : (side : Side) (test : ReplyContent → Bool) (n : ℤ) (c : ReplyContent) (sent : List SentPacket) → In (says n c) (told_notes side sent) → test c ≡ true → told.says test sent n ≡ true
 says-passes side test n c sent i p = said-at side test n c sent (told_notes side sent) refl i p

@@ -29,7 +29,8 @@ use Rattle.channel_model.specs.Ends.{End, StackEntry, Packet, message}
 use Rattle.channel_model.specs.Falls.{deletes}
 use Rattle.promise_table.specs.Promises as promises
 use Rattle.channel_model.proofs.Known.{all-append}
-use Rattle.channel_model.specs.Numbers.{seq_of, sends, is_sync_row, makes_promise, counting, request_row, is_constructor, protocol_of}
+use Rattle.ipdl_base.specs.Sides.{sends}
+use Rattle.channel_model.specs.Numbers.{seq_of, is_sync_row, makes_promise, counting, request_row, is_constructor, protocol_of}
 use Rattle.channel_model.specs.Typed.{have_types}
 use Rattle.channel_model.specs.ValueActors.{lives_as}
 use Rattle.channel_model.specs.Outputs.{Output, Change, beginning, ◌▷◌, when, on_end, line, put, is_open, is_dead_end}
@@ -110,7 +111,7 @@ called side _ _ level seq route number (cpow_on_top {head} {entries} s e a) top 
 below_next : (n : ℕ) → nat_lt 0 (n + 1) ≡ true
 below_next n = grind (arith, nat_tests)
 
--- the next number is of its side
+-- the next number belongs to its side
 next-is_of : (side : Side) (n : ℕ) → IsTransactionOf side (seq_of side (n + 1))
 next-is_of Parent n = below_next n
 next-is_of Child n = rw add-one refl
@@ -148,7 +149,7 @@ at-push schema w entry e packets h = record {
   waiting = h.waiting;
 }
 
--- a packet that is not sync goes last into the outbox, or onto the link
+-- a packet that is not sync goes last into the outbox, or on the link
 outbox-more : (schema : Schema) (outbox : List Message) (m : Message) → sync_packets schema (map message outbox) ≡ [] → sync_packet schema (message m) ≡ [] → sync_packets schema (map message (outbox ++ m ∷ [])) ≡ []
 outbox-more schema [] m e f = ap (λ (ps : List SyncPacket). ps ++ []) f
 outbox-more schema (x ∷ outbox) m e f =
@@ -164,7 +165,7 @@ keeps-posted schema true m nothing agrees w o h =
 keeps-posted schema false m nothing agrees w o h =
     at-sent schema w (w.sent ++ sync_packet schema (message m)) w.sent (put (message m) o).end (put (message m) o).packets (ap (λ (ps : List SyncPacket). w.sent ++ ps) nothing ∙ append-nil w.sent) (at-put schema (message m) agrees w o h)
 
--- the rest of a send, behind its packet and its wait
+-- the rest of a send, after its packet and its wait
 keeps-rest : (schema : Schema) (row : MessageRow) (m : Message) (name : Option (List ℕ)) → KeepsTrack schema (send.names_actor m.made name ▷ send.constructs m.made m.route row.kind ▷ deletes m.route row.kind)
 keeps-rest schema row m name =
     keeps-chain schema (send.names_actor m.made name) (send.constructs m.made m.route row.kind ▷ deletes m.route row.kind) (keeps-names_actor schema m.made name)
@@ -207,7 +208,7 @@ module _ (schema : Schema) (e : End) (row : MessageRow) (route : ℤ) (vs : Valu
   entry-agree : is_sync_row row ≡ true → EntryAgrees schema (send.wait_for row m)
   entry-agree is = record { row = row; found = found; is_sync = is; resolves = λ r. cc }
 
-  -- the track behind the call, which is on the link and on the stack
+  -- the track after the call, which is on the link and on the stack
   abbrev called_track : Track
   called_track = record { side = e.side; stack = send.wait_for row m ∷ e.stack; arrived = e.arrived; sent = request (call_of row.level m) ∷ [] }
 

@@ -1,4 +1,4 @@
--- Each part of a step sends what its lines say.
+-- Each part of a step sends what its lines show.
 use Rattle.std.proofs.Common.{◌≡◌, ◌==◌, ℕ, suc, ◌+◌, ℤ, pos, Bool, true, false, if◌then◌else◌, List, [], ◌∷◌, ◌++◌, drop, map, Option, Some, None, refl, sym, ap, subst, ◌∙◌, append_assoc, arith, inl, inr}
 use Rattle.std.specs.List.{AllByRecursion}
 use Rattle.std.specs.Option.{option_map_or}
@@ -45,7 +45,8 @@ use Rattle.ipdl_base.specs.declared.kinds.EndState.TheVariants.{Open, Draining, 
 use Rattle.channel_model.specs.Ends.{End, Packet, message, mark}
 use Rattle.channel_model.specs.Events.{Answering, handled, kept}
 use Rattle.channel_model.specs.Falls as fall
-use Rattle.channel_model.specs.Numbers.{top_id, id_of, seq_of, is_constructor, counting, is_sync_row, request_row}
+use Rattle.ipdl_base.specs.Sides.{top_id}
+use Rattle.channel_model.specs.Numbers.{id_of, seq_of, is_constructor, counting, is_sync_row, request_row}
 use Rattle.channel_model.specs.Outputs.{is_open, is_dead_end, AnsweredRequest, answer_line, request_answered, resolver_answered, reply_to}
 use Rattle.channel_model.specs.Returns as return
 use Rattle.channel_model.specs.Sends as send
@@ -53,7 +54,7 @@ use Rattle.channel_model.specs.Takes as take
 use Rattle.channel_model.specs.ValueActors.{received}
 use Rattle.channel_model.specs.Phases.{Phase}
 use Rattle.channel_model.specs.Parts as parts
-use Rattle.channel_model.specs.Parts.{FirstPart, LaterPart, DeliveryPart, IsRefusal, IsRenaming, behind_outbox, reply_packet, reply_lines, reply_packets, end_behind, fall_lines, farewell_line, outbox_after, request_packets}
+use Rattle.channel_model.specs.Parts.{FirstPart, LaterPart, DeliveryPart, IsRefusal, IsRenaming, after_outbox, reply_packet, reply_lines, reply_packets, end_after, fall_lines, farewell_line, outbox_after, request_packets}
 use Rattle.channel_laws.specs.Tested.{after_whats}
 use Rattle.channel_laws.specs.Outlines.{Ended, Outline, outline, HasOutline}
 use Rattle.channel_laws.specs.Notes.{Note, says as note_says, asks as note_asks, told_note, told_notes, packet_note, notes, fault_content, values_content}
@@ -83,12 +84,12 @@ requests-append (x ∷ xs) ys = requests-one x xs ys (requests-append xs ys)
 notes-posted : (schema : Schema) (outbox : List Message) (p : Packet) → notes schema (map message outbox ++ p ∷ []) ≡ notes schema (map message outbox) ++ packet_note schema p ∷ []
 notes-posted schema outbox p = map-append (packet_note schema) (map message outbox) (p ∷ [])
 
--- what is told goes last
+-- what is noted goes last
 put-last : (es left out lost : List Note) (x : Note) → es ≡ left ++ (out ++ lost) → lost ≡ [] → es ++ x ∷ [] ≡ left ++ (out ++ x ∷ [])
 put-last es left out lost x e none =
     ap (λ (l : List Note). l ++ x ∷ []) (e ∙ ap (λ (l : List Note). left ++ (out ++ l)) none ∙ ap (λ (l : List Note). left ++ l) (append-nil out)) ∙ append_assoc left out (x ∷ [])
 
--- a packet with its line, which is no request's
+-- a packet with its line, where the line is not of a request
 tells : (schema : Schema) (side : Side) (outbox : List Message) (count : ℕ) (sent : List SentPacket) (left : List Note) (t : SentPacket) (p : Packet) → told_note side t ≡ packet_note schema p → request_in t ≡ None → SentAccount schema side true outbox count sent left
     → SentAccount schema side true [] count (sent ++ t ∷ []) (left ++ notes schema (map message outbox ++ p ∷ []))
 tells schema side outbox count sent left t p is none k = record {
@@ -144,7 +145,7 @@ asks schema side false e sent left r m is seq fit k = record {
   syncs = subst (AllByRecursion (HasSyncOfRow schema)) (sym (requests-append sent (told.request r ∷ []))) (all-append (HasSyncOfRow schema) (requests_of sent) (r ∷ []) k.syncs (fit, tt));
 }
 
--- Lines that leave what was sent
+-- Lines that leave what was sent unchanged
 
 pub data LeavesSent : What → Type 0 where
   fails : (n : ℤ) → LeavesSent (what.Fails n)
@@ -191,7 +192,7 @@ made-is schema row side made count found is =
 open-sent : (e : End) → is_open e.state ≡ true → (schema : Schema) (outbox : List Message) (count : ℕ) (sent : List SentPacket) (left : List Note) → SentAccount schema e.side (is_open e.state) outbox count sent left → SentAccount schema e.side true outbox count sent left
 open-sent e o schema outbox count sent left k = subst (λ (b : Bool). SentAccount schema e.side b outbox count sent left) o k
 
--- an end that is not open any more
+-- an end that is no longer open
 closed-sent : {schema : Schema} {side : Side} {b c : Bool} {outbox : List Message} {count : ℕ} {sent : List SentPacket} {left : List Note} → b ≡ false → SentAccount schema side c outbox count sent left → SentAccount schema side b outbox count sent left
 closed-sent is k = record { lost = k.lost; whole = k.whole; kept = λ o. let x : true ≡ false = sym o ∙ is in cc; numbers = k.numbers; syncs = k.syncs }
 
@@ -211,7 +212,8 @@ module _ (schema : Schema) (rows : HasSoundRows schema) (theirs : List Note) whe
   said_of (answer.Ok vs) = told.ok vs
   said_of (answer.Fault r) = told.fault r
 
-  -- what the line of an answer says is what its packet says: its request is sync, or it is one of the faults that an end makes itself
+  -- the line of an answer agrees with its packet: the request is sync, or the answer is one of the faults that an end
+  -- makes itself
   agrees-at : (sync : Bool) (q : AnsweredRequest) (a : Answer) → (sync ≡ false → IsOwnFault a) → told_note Parent (told.said q.seq (said_of a)) ≡ note_by q a sync
   agrees-at true q (answer.Ok vs) h = refl
   agrees-at true q (answer.Fault r) h = refl
@@ -232,19 +234,19 @@ module _ (schema : Schema) (rows : HasSoundRows schema) (theirs : List Note) whe
   said-line place q (answer.Ok vs) h = refl
   said-line place q (answer.Fault r) h = refl
 
-  -- a reply, or none
+  -- a reply, or no reply
   replies : (b : Bool) (place : ℕ) (e : End) (h : EndReading) (left : List Note) (q : AnsweredRequest) (a : Answer) → (b ≡ true → is_open e.state ≡ true) → (o : Origin schema theirs q.seq q.route q.number) → (b ≡ true → is_sync_row o.row ≡ false → IsOwnFault a) → EndAccount schema e h left
-      → EndAccount schema (end_behind b e) (after_whats schema place (reply_lines b q a) h) (left ++ notes schema (reply_packets b e q a))
+      → EndAccount schema (end_after b e) (after_whats schema place (reply_lines b q a) h) (left ++ notes schema (reply_packets b e q a))
   replies true place e h left q a open_end o own k =
       let t : SentPacket = told.said q.seq (said_of a) in
-      subst (λ (b : Bool). SentAccount schema e.side b [] e.sent (after_whats schema place (answer_line q.seq a ∷ []) h).sent (left ++ notes schema (behind_outbox e (reply_packet q a)))) (sym (open_end refl))
-      (subst (λ (sent : List SentPacket). SentAccount schema e.side true [] e.sent sent (left ++ notes schema (behind_outbox e (reply_packet q a)))) (sym (said-line place q a h))
+      subst (λ (b : Bool). SentAccount schema e.side b [] e.sent (after_whats schema place (answer_line q.seq a ∷ []) h).sent (left ++ notes schema (after_outbox e (reply_packet q a)))) (sym (open_end refl))
+      (subst (λ (sent : List SentPacket). SentAccount schema e.side true [] e.sent sent (left ++ notes schema (after_outbox e (reply_packet q a)))) (sym (said-line place q a h))
       (tells schema e.side e.outbox e.sent h.sent left t (reply_packet q a) (agrees e.side q a o (own refl)) refl (open-sent e (open_end refl) schema e.outbox e.sent h.sent left k)))
   replies false place e h left q a open_end o own k = same k
 
-  -- the same at an end whose arrived items and counts are others
+  -- the same at an end with other arrived items and counts
   replies-beside : (b : Bool) (place : ℕ) (e : End) (items : List Item) (n m : ℕ) (h : EndReading) (left : List Note) (q : AnsweredRequest) (a : Answer) → (b ≡ true → is_open e.state ≡ true) → (o : Origin schema theirs q.seq q.route q.number) → (b ≡ true → is_sync_row o.row ≡ false → IsOwnFault a) → EndAccount schema e h left
-      → EndAccount schema (end_behind b (record e { arrived = items; delivered = n; constructors_delivered = m })) (after_whats schema place (reply_lines b q a) h) (left ++ notes schema (reply_packets b e q a))
+      → EndAccount schema (end_after b (record e { arrived = items; delivered = n; constructors_delivered = m })) (after_whats schema place (reply_lines b q a) h) (left ++ notes schema (reply_packets b e q a))
   replies-beside true place e items n m h left q a open_end o own k = replies true place (record e { arrived = items; delivered = n; constructors_delivered = m }) h left q a open_end o own k
   replies-beside false place e items n m h left q a open_end o own k = replies false place (record e { arrived = items; delivered = n; constructors_delivered = m }) h left q a open_end o own k
 
@@ -260,7 +262,7 @@ module _ (schema : Schema) (rows : HasSoundRows schema) (theirs : List Note) whe
   renaming-sent place (what.Let name id) h q = refl
   renaming-sent place _ h q = absurd q
 
-  -- the lines leave what was sent, and nothing goes onto the link
+  -- the lines leave what was sent unchanged, and nothing goes onto the link
   leaves : (e : End) (h next : EndReading) (left : List Note) → next.sent ≡ h.sent → EndAccount schema e h left → EndAccount schema e next (left ++ [])
   leaves e h next left is k = subst (λ (sent : List SentPacket). SentAccount schema e.side (is_open e.state) e.outbox e.sent sent (left ++ [])) (sym is) (same k)
 
@@ -341,16 +343,16 @@ module _ (schema : Schema) (rows : HasSoundRows schema) (theirs : List Note) whe
       async : reading.is_sync_number schema (r.number + 1) ≡ false
       async = (rows r.number origin.origin.row origin.origin.found).reply_sync ∙ promise-async origin.origin.row origin.promised
 
-      sent-with : (vs : Option Values) → SentAccount schema e.side true [] e.sent (after_what schema place (answering.answering_line r.seq vs) h).sent (left ++ notes schema (behind_outbox e (message (reply_to (resolver_answered r) (answering.answer_body vs)))))
+      sent-with : (vs : Option Values) → SentAccount schema e.side true [] e.sent (after_what schema place (answering.answering_line r.seq vs) h).sent (left ++ notes schema (after_outbox e (message (reply_to (resolver_answered r) (answering.answer_body vs)))))
       sent-with None = tells schema e.side e.outbox e.sent h.sent left (told.said r.seq told.rejected) (message (reply_to (resolver_answered r) (answering.answer_body None))) (ap (λ (b : Bool). note_says r.seq (fault_content b reason.HandlerRejected)) (sym async)) refl (open-sent e o schema e.outbox e.sent h.sent left t)
       sent-with (Some vs) = tells schema e.side e.outbox e.sent h.sent left (told.said r.seq (told.resolved vs)) (message (reply_to (resolver_answered r) (answering.answer_body (Some vs)))) (ap (λ (b : Bool). note_says r.seq (values_content b vs)) (sym async)) refl (open-sent e o schema e.outbox e.sent h.sent left t)
 
-      at : (by : Answering) (vs : Option Values) → EndAccount schema (record (answering.without_resolver by e) { outbox = [] }) (after_what schema place (answering.answering_line r.seq vs) h) (left ++ notes schema (behind_outbox e (message (reply_to (resolver_answered r) (answering.answer_body vs)))))
-      at (handled seq) vs = subst (λ (b : Bool). SentAccount schema e.side b [] e.sent (after_what schema place (answering.answering_line r.seq vs) h).sent (left ++ notes schema (behind_outbox e (message (reply_to (resolver_answered r) (answering.answer_body vs)))))) (sym o) (sent-with vs)
-      at (kept name number) vs = subst (λ (b : Bool). SentAccount schema e.side b [] e.sent (after_what schema place (answering.answering_line r.seq vs) h).sent (left ++ notes schema (behind_outbox e (message (reply_to (resolver_answered r) (answering.answer_body vs)))))) (sym o) (sent-with vs)
+      at : (by : Answering) (vs : Option Values) → EndAccount schema (record (answering.without_resolver by e) { outbox = [] }) (after_what schema place (answering.answering_line r.seq vs) h) (left ++ notes schema (after_outbox e (message (reply_to (resolver_answered r) (answering.answer_body vs)))))
+      at (handled seq) vs = subst (λ (b : Bool). SentAccount schema e.side b [] e.sent (after_what schema place (answering.answering_line r.seq vs) h).sent (left ++ notes schema (after_outbox e (message (reply_to (resolver_answered r) (answering.answer_body vs)))))) (sym o) (sent-with vs)
+      at (kept name number) vs = subst (λ (b : Bool). SentAccount schema e.side b [] e.sent (after_what schema place (answering.answering_line r.seq vs) h).sent (left ++ notes schema (after_outbox e (message (reply_to (resolver_answered r) (answering.answer_body vs)))))) (sym o) (sent-with vs)
   first-account {e} place h left (parts.closes o waits) s k t = closed-sent refl (tells schema e.side e.outbox e.sent h.sent left told.goodbye (message goodbye) refl refl (open-sent e o schema e.outbox e.sent h.sent left t))
   first-account {e} place h left (parts.dies o) s k t =
-      subst (λ (b : Bool). SentAccount schema e.side false [] e.sent (if b then h.sent else h.sent ++ told.broken ∷ []) (left ++ notes schema (behind_outbox e mark))) (sym (ended-open e (outline h) s o))
+      subst (λ (b : Bool). SentAccount schema e.side false [] e.sent (if b then h.sent else h.sent ++ told.broken ∷ []) (left ++ notes schema (after_outbox e mark))) (sym (ended-open e (outline h) s o))
       (closed-sent refl (tells schema e.side e.outbox e.sent h.sent left told.broken mark refl refl (open-sent e o schema e.outbox e.sent h.sent left t)))
   first-account {e} place h left (parts.dies_silent o alive) s k t =
       subst (λ (b : Bool). SentAccount schema e.side false e.outbox e.sent (if b then h.sent else h.sent ++ told.broken ∷ []) (left ++ [])) (sym (ended-other e (outline h) s o alive)) (closed-sent refl (same t))
@@ -381,14 +383,14 @@ module _ (schema : Schema) (rows : HasSoundRows schema) (theirs : List Note) whe
       c = answer.Fault reason.ResolverDestroyed
 
       both : (told lost : Bool) (o : Origin schema theirs (head_of entry.frame).seq entry.route entry.number) → (told ≡ true → is_sync_row o.row ≡ false → IsOwnFault a) → (told ≡ true → is_open e.state ≡ true) → (lost ≡ true → is_open e.state ≡ true)
-          → EndAccount schema (end_behind lost (end_behind told (record e { stack = drop 1 e.stack }))) (after_whats schema place (what.Return (head_of entry.frame).seq ∷ reply_lines told q a ++ reply_lines lost r c) h) (left ++ notes schema (reply_packets told e q a ++ reply_packets lost (end_behind told e) r c))
+          → EndAccount schema (end_after lost (end_after told (record e { stack = drop 1 e.stack }))) (after_whats schema place (what.Return (head_of entry.frame).seq ∷ reply_lines told q a ++ reply_lines lost r c) h) (left ++ notes schema (reply_packets told e q a ++ reply_packets lost (end_after told e) r c))
       both true true o own x y =
-          subst (EndAccount schema (end_behind true (end_behind true (record e { stack = drop 1 e.stack }))) (after_whats schema place (what.Return (head_of entry.frame).seq ∷ reply_lines true q a ++ reply_lines true r c) h)) (sym (notes-both (reply_packets true e q a) (reply_packets true (end_behind true e) r c) left))
-          (replies true (place + 1 + 1) (end_behind true (record e { stack = drop 1 e.stack })) (after_what schema (place + 1) (answer_line q.seq a) (after_what schema place (what.Return (head_of entry.frame).seq) h)) (left ++ notes schema (reply_packets true e q a)) r c y o (λ x y. tt)
+          subst (EndAccount schema (end_after true (end_after true (record e { stack = drop 1 e.stack }))) (after_whats schema place (what.Return (head_of entry.frame).seq ∷ reply_lines true q a ++ reply_lines true r c) h)) (sym (notes-both (reply_packets true e q a) (reply_packets true (end_after true e) r c) left))
+          (replies true (place + 1 + 1) (end_after true (record e { stack = drop 1 e.stack })) (after_what schema (place + 1) (answer_line q.seq a) (after_what schema place (what.Return (head_of entry.frame).seq) h)) (left ++ notes schema (reply_packets true e q a)) r c y o (λ x y. tt)
           (replies true (place + 1) (record e { stack = drop 1 e.stack }) (after_what schema place (what.Return (head_of entry.frame).seq) h) left q a x o own t))
       both true false o own x y =
-          subst (EndAccount schema (end_behind false (end_behind true (record e { stack = drop 1 e.stack }))) (after_whats schema place (what.Return (head_of entry.frame).seq ∷ reply_lines true q a ++ reply_lines false r c) h)) (sym (notes-both (reply_packets true e q a) (reply_packets false (end_behind true e) r c) left))
-          (replies false (place + 1 + 1) (end_behind true (record e { stack = drop 1 e.stack })) (after_what schema (place + 1) (answer_line q.seq a) (after_what schema place (what.Return (head_of entry.frame).seq) h)) (left ++ notes schema (reply_packets true e q a)) r c y o (λ x y. tt)
+          subst (EndAccount schema (end_after false (end_after true (record e { stack = drop 1 e.stack }))) (after_whats schema place (what.Return (head_of entry.frame).seq ∷ reply_lines true q a ++ reply_lines false r c) h)) (sym (notes-both (reply_packets true e q a) (reply_packets false (end_after true e) r c) left))
+          (replies false (place + 1 + 1) (end_after true (record e { stack = drop 1 e.stack })) (after_what schema (place + 1) (answer_line q.seq a) (after_what schema place (what.Return (head_of entry.frame).seq) h)) (left ++ notes schema (reply_packets true e q a)) r c y o (λ x y. tt)
           (replies true (place + 1) (record e { stack = drop 1 e.stack }) (after_what schema place (what.Return (head_of entry.frame).seq) h) left q a x o own t))
       both false true o own x y = replies true (place + 1) (record e { stack = drop 1 e.stack }) (after_what schema place (what.Return (head_of entry.frame).seq) h) left r c y o (λ x y. tt) t
       both false false o own x y = replies false (place + 1) (record e { stack = drop 1 e.stack }) (after_what schema place (what.Return (head_of entry.frame).seq) h) left r c y o (λ x y. tt) t

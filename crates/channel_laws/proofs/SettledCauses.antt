@@ -1,4 +1,4 @@
--- A reply that settles its promise was said by the other end, and so the settling has its cause.
+-- A reply that settles its promise was sent by the other end, and so the settling has its cause.
 use Rattle.std.proofs.Common.{◌≡◌, ℤ, Bool, true, false, not, ◌&&◌, if◌then◌else◌, int_eq, List, [], ◌∷◌, Option, Some, is_some, refl, sym, ap, subst, ◌∙◌}
 use Rattle.std.specs.List.{AllByRecursion}
 use Rattle.std.specs.Option.{option_map_or}
@@ -34,7 +34,7 @@ use Rattle.history_reading.specs.Reading.{after_what}
 use Rattle.history_reading.specs.Rows as rows_read
 use Rattle.history_reading.specs.SentPacket as told
 use Rattle.history_reading.specs.SentPacket.{requests_of, request_of}
-use Rattle.history_reading.specs.Settled.{is_destroyed, says_fallen, resolves_missing, promise_falls_next, is_resolved_with, is_resolved_missing, is_rejected}
+use Rattle.history_reading.specs.Settled.{is_destroyed, reports_fallen, resolves_missing, promise_falls_next, is_resolved_with, is_resolved_missing, is_rejected}
 use Rattle.history_reading.specs.Waits.{own_returns, is_fault}
 use Rattle.channel_laws.specs.EndActors.{ReadsActors}
 use Rattle.channel_laws.specs.NotedArrivals.{ItemIsNoted, ArrivalsAreNoted, HasWantsOfRow, HaveWantsOfRows}
@@ -60,7 +60,7 @@ use Rattle.channel_laws.proofs.SettledLines.{awaited-unsettled}
 use Rattle.channel_laws.proofs.Settling.{IsUnsettled, pending-unsettled}
 use Rattle.channel_laws.proofs.Track.{all-found}
 
--- No end says that the channel has closed
+-- No end replies that the channel has closed
 
 abbrev NotesNoClosedFault : Note → Type 0
 NotesNoClosedFault (note.asks r) = Unit {0}
@@ -75,44 +75,44 @@ no-closed-notes side (told.said n content ∷ sent) h = (h.0, no-closed-notes si
 no-closed-notes side (told.goodbye ∷ sent) h = (tt, no-closed-notes side sent h.1)
 no-closed-notes side (told.broken ∷ sent) h = (tt, no-closed-notes side sent h.1)
 
--- What was said
+-- What was sent
 
 module _ (schema : Schema) (side : Side) (own others : EndReading) where
-  -- one who says it, or in whose values an actor is missing, destroys the promise
-  fallen-destroys : (n : ℤ) (behind : List Line) → told.says (is_fault ActorDestroyed) others.sent n ≡ true → is_destroyed schema side own others n behind ≡ true
-  unfolding is_destroyed says_fallen
-  fallen-destroys n behind is = ap (λ (b : Bool). if (if b then true else resolves_missing schema own others n) then true else promise_falls_next side own n behind) is
+  -- a reply with this fault, or with values in which an actor is missing, destroys the promise
+  fallen-destroys : (n : ℤ) (following : List Line) → told.says (is_fault ActorDestroyed) others.sent n ≡ true → is_destroyed schema side own others n following ≡ true
+  unfolding is_destroyed reports_fallen
+  fallen-destroys n following is = ap (λ (b : Bool). if (if b then true else resolves_missing schema own others n) then true else promise_falls_next side own n following) is
 
-  missing-destroys : (n : ℤ) (behind : List Line) → told.says (is_resolved_missing schema own (own_returns schema own n)) others.sent n ≡ true → is_destroyed schema side own others n behind ≡ true
+  missing-destroys : (n : ℤ) (following : List Line) → told.says (is_resolved_missing schema own (own_returns schema own n)) others.sent n ≡ true → is_destroyed schema side own others n following ≡ true
   unfolding is_destroyed resolves_missing
-  missing-destroys n behind is = by (says_fallen others n) is
+  missing-destroys n following is = by (reports_fallen others n) is
     where
-      by : (b : Bool) → told.says (is_resolved_missing schema own (own_returns schema own n)) others.sent n ≡ true → (if (if b then true else told.says (is_resolved_missing schema own (own_returns schema own n)) others.sent n) then true else promise_falls_next side own n behind) ≡ true
+      by : (b : Bool) → told.says (is_resolved_missing schema own (own_returns schema own n)) others.sent n ≡ true → (if (if b then true else told.says (is_resolved_missing schema own (own_returns schema own n)) others.sent n) then true else promise_falls_next side own n following) ≡ true
       by true is = refl
-      by false is = ap (λ (b : Bool). if b then true else promise_falls_next side own n behind) is
+      by false is = ap (λ (b : Bool). if b then true else promise_falls_next side own n following) is
 
   -- the fault of an async reply
-  fault-cause : (their_side : Side) (n : ℤ) (r : Reason) (behind : List Line) → In (says n (fault_content false r)) (told_notes their_side others.sent) → AllByRecursion SaysNoClosedFault others.sent → has_cause schema side others own (what.Rejected n r) behind ≡ true
-  fault-cause their_side n HandlerRejected behind i none = says-passes their_side is_rejected n told.rejected others.sent i refl
-  fault-cause their_side n ResolverDestroyed behind i none = says-passes their_side (is_fault ResolverDestroyed) n (told.fault ResolverDestroyed) others.sent i (reason-same ResolverDestroyed)
-  fault-cause their_side n ActorDestroyed behind i none = fallen-destroys n behind (says-passes their_side (is_fault ActorDestroyed) n (told.fault ActorDestroyed) others.sent i (reason-same ActorDestroyed))
-  fault-cause their_side n ChannelClosed behind i none = absurd (in-all NotesNoClosedFault i (no-closed-notes their_side others.sent none))
+  fault-cause : (their_side : Side) (n : ℤ) (r : Reason) (following : List Line) → In (says n (fault_content false r)) (told_notes their_side others.sent) → AllByRecursion SaysNoClosedFault others.sent → has_cause schema side others own (what.Rejected n r) following ≡ true
+  fault-cause their_side n HandlerRejected following i none = says-passes their_side is_rejected n told.rejected others.sent i refl
+  fault-cause their_side n ResolverDestroyed following i none = says-passes their_side (is_fault ResolverDestroyed) n (told.fault ResolverDestroyed) others.sent i (reason-same ResolverDestroyed)
+  fault-cause their_side n ActorDestroyed following i none = fallen-destroys n following (says-passes their_side (is_fault ActorDestroyed) n (told.fault ActorDestroyed) others.sent i (reason-same ActorDestroyed))
+  fault-cause their_side n ChannelClosed following i none = absurd (in-all NotesNoClosedFault i (no-closed-notes their_side others.sent none))
 
-  -- its values, with null in the place of dead actors, or none where an actor is missing
-  values-cause : (their_side : Side) (e : End) (n : ℤ) (row : MessageRow) (vs : Values) (behind : List Line) → In (says n (told.resolved vs)) (told_notes their_side others.sent) → own_returns schema own n ≡ returns_of_row row → AllByRecursion (LivesAlike e.actors (lives own)) (actors_in_parts schema (returns_of_row row) vs)
+  -- the values of a reply, with null in the place of dead actors, or a fault if an actor is missing
+  values-cause : (their_side : Side) (e : End) (n : ℤ) (row : MessageRow) (vs : Values) (following : List Line) → In (says n (told.resolved vs)) (told_notes their_side others.sent) → own_returns schema own n ≡ returns_of_row row → AllByRecursion (LivesAlike e.actors (lives own)) (actors_in_parts schema (returns_of_row row) vs)
       → (b : Bool) → is_some (missing schema e.actors (returns_of_row row) vs) ≡ b
-      → has_cause schema side others own (take.settle_line n (take.outcome_of (if b then answer.Fault ActorDestroyed else answer.Ok (nulled schema e.actors (returns_of_row row) vs)))) behind ≡ true
-  values-cause their_side e n row vs behind i returns same true is =
-      missing-destroys n behind (says-passes their_side (is_resolved_missing schema own (own_returns schema own n)) n (told.resolved vs) others.sent i
+      → has_cause schema side others own (take.settle_line n (take.outcome_of (if b then answer.Fault ActorDestroyed else answer.Ok (nulled schema e.actors (returns_of_row row) vs)))) following ≡ true
+  values-cause their_side e n row vs following i returns same true is =
+      missing-destroys n following (says-passes their_side (is_resolved_missing schema own (own_returns schema own n)) n (told.resolved vs) others.sent i
       (ap (λ (types : List ParamRow). is_some (missing_read schema (lives own) types vs)) returns ∙ (ap is_some (values_are_read_alike.missing schema e.actors (lives own) (returns_of_row row) vs same) ∙ is)))
-  values-cause their_side e n row vs behind i returns same false is =
+  values-cause their_side e n row vs following i returns same false is =
       says-passes their_side (is_resolved_with schema own (own_returns schema own n) (nulled schema e.actors (returns_of_row row) vs)) n (told.resolved vs) others.sent i
       (ap (λ (types : List ParamRow). same_values (nulled_fields schema (lives own) types vs) (nulled schema e.actors (returns_of_row row) vs)) returns
       ∙ (ap (λ (us : Values). same_values us (nulled schema e.actors (returns_of_row row) vs)) (values_are_read_alike.nulled schema e.actors (lives own) (returns_of_row row) vs same) ∙ values-same (nulled schema e.actors (returns_of_row row) vs)))
 
 -- The reply that is taken
 
--- What is known of an end and of what the other has sent.
+-- What is known of an end and of what the other end has sent.
 pub record KnowsReplies (schema : Schema) (their_side : Side) (e : End) (own others : EndReading) : Type 0 where
   pub made : Protocols
   pub open_end : Bool
@@ -156,7 +156,7 @@ module _ (schema : Schema) (rows : HasSoundRows schema) (side their_side : Side)
       )
 
   pub replies-have-causes : RepliesHaveCauses schema side others e own
-  replies-have-causes m sync level row a next body found awaited place behind = by a body
+  replies-have-causes m sync level row a next body found awaited place following = by a body
     where
       x : Item
       x = item.Message m sync level
@@ -167,16 +167,16 @@ module _ (schema : Schema) (rows : HasSoundRows schema) (side their_side : Side)
       replies_it : BodyReplies schema (told_notes e.side own.sent) m m.body
       replies_it = all-taken (ItemReplies schema (told_notes e.side own.sent)) e (item.Message m sync level) next k.replies
 
-      by : (a : Answer) → m.body ≡ body_of a → has_cause schema side others (after_what schema place (what.TakeReply m.seq) own) (take.settle_line m.seq (take.outcome_of (received schema e.actors row a))) behind ≡ true
+      by : (a : Answer) → m.body ≡ body_of a → has_cause schema side others (after_what schema place (what.TakeReply m.seq) own) (take.settle_line m.seq (take.outcome_of (received schema e.actors row a))) following ≡ true
       by (answer.Ok vs) is =
           let r : RepliesTo schema (told_notes e.side own.sent) m = subst (BodyReplies schema (told_notes e.side own.sent) m) is replies_it in
           let q = reply-row m row r found awaited in
           let i : In (says m.seq (values_content (rows_read.is_sync_number schema m.number) vs)) (told_notes their_side others.sent) = subst (λ (b : Body). In (body_note schema m b) (told_notes their_side others.sent)) is noted_it in
           let j : In (says m.seq (told.resolved vs)) (told_notes their_side others.sent) = subst (λ (b : Bool). In (says m.seq (values_content b vs)) (told_notes their_side others.sent)) q.0 i in
           let has : HaveTheirProtocols k.made (actors_of schema row m (Reply vs)) = subst (λ (b : Body). HaveTheirProtocols k.made (actors_of schema row m b)) is (all-taken (ItemHasProtocols schema k.made) e (item.Message m sync level) next k.protocols.arrived row found).actors in
-          values-cause schema side (after_what schema place (what.TakeReply m.seq) own) others their_side e m.seq row vs behind j q.1 (alike schema k.made e own k.protocols k.actors (actors_in_parts schema (returns_of_row row) vs) has.1) (is_some (missing schema e.actors (returns_of_row row) vs)) refl
+          values-cause schema side (after_what schema place (what.TakeReply m.seq) own) others their_side e m.seq row vs following j q.1 (alike schema k.made e own k.protocols k.actors (actors_in_parts schema (returns_of_row row) vs) has.1) (is_some (missing schema e.actors (returns_of_row row) vs)) refl
       by (answer.Fault reason) is =
           let r : RepliesTo schema (told_notes e.side own.sent) m = subst (BodyReplies schema (told_notes e.side own.sent) m) is replies_it in
           let q = reply-row m row r found awaited in
           let i : In (says m.seq (fault_content (rows_read.is_sync_number schema m.number) reason)) (told_notes their_side others.sent) = subst (λ (b : Body). In (body_note schema m b) (told_notes their_side others.sent)) is noted_it in
-          fault-cause schema side (after_what schema place (what.TakeReply m.seq) own) others their_side m.seq reason behind (subst (λ (b : Bool). In (says m.seq (fault_content b reason)) (told_notes their_side others.sent)) q.0 i) k.said_by
+          fault-cause schema side (after_what schema place (what.TakeReply m.seq) own) others their_side m.seq reason following (subst (λ (b : Bool). In (says m.seq (fault_content b reason)) (told_notes their_side others.sent)) q.0 i) k.said_by

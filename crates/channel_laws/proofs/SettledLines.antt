@@ -39,7 +39,8 @@ use Rattle.channel_model.specs.Deliveries as delivery
 use Rattle.channel_model.specs.Ends.{End, Packet, message, mark, PromiseEntry}
 use Rattle.channel_model.specs.Falls as fall
 use Rattle.channel_model.specs.Falls.{passes}
-use Rattle.channel_model.specs.Numbers.{is_sync_row, top_id}
+use Rattle.ipdl_base.specs.Sides.{top_id}
+use Rattle.channel_model.specs.Numbers.{is_sync_row}
 use Rattle.channel_model.specs.Outputs.{AnsweredRequest, line_at, request_answered, resolver_answered}
 use Rattle.channel_model.specs.Parts
 use Rattle.channel_model.specs.Parts.{OwnParts, FirstPart, LaterPart, LaterParts, DeliveryPart, IsRefusal, IsRenaming, reply_lines, fall_lines, falling, farewell_line, shut_line, left_end, reply_outcome}
@@ -54,7 +55,7 @@ use Rattle.history_reading.specs.EndReading.{EndReading}
 use Rattle.history_reading.specs.Numbers.{has}
 use Rattle.history_reading.specs.Reading.{Reading, end_reading_of, other_of, after_what, after_at, settling}
 use Rattle.history_reading.specs.SentPacket.{Request, requests_of}
-use Rattle.history_reading.specs.Settled.{settled_line, is_unsettled, is_resolved, is_cause, is_destroyed, promise_falls_next, says_destroyed, falls_next, is_close_event}
+use Rattle.history_reading.specs.Settled.{settled_line, is_unsettled, is_resolved, is_cause, is_destroyed, promise_falls_next, reports_destroyed, falls_next, is_close_event}
 use Rattle.channel_laws.specs.EndActors.{KeepsActors, ReadsActors, actor_reading}
 use Rattle.channel_laws.specs.Rows.{HasSoundRows}
 use Rattle.channel_laws.specs.Promised.{PromiseReading, promise_reading, PromisesAreRead}
@@ -68,14 +69,14 @@ use Rattle.channel_laws.proofs.Promising.{int-apart, promises-distinct, numbers_
 use Rattle.channel_laws.proofs.Counting.{int-same}
 use Rattle.channel_laws.proofs.Settling.{IsUnsettled, GoesTo, pending-unsettled, passing-unsettled, passing-go, falling-distinct, falling-unsettled, passing-distinct}
 
--- the same of a reading of both ends
+-- the same for a reading of both ends
 abbrev pub settled_test : Schema → Reading → Line → List Line → Bool
-settled_test schema reading line behind = settled_line schema line.side (end_reading_of line.side reading) (other_of line.side reading) line.what behind
+settled_test schema reading line following = settled_line schema line.side (end_reading_of line.side reading) (other_of line.side reading) line.what following
 
-pub settled-lines : (schema : Schema) (side : Side) (ws : List What) (r : Reading) (behind : List Line) → SettledPass schema side (other_of side r) r.lines ws (end_reading_of side r) → LinesPass schema (settled_test schema) r (map (line_at side) ws) behind
-settled-lines schema side [] r behind t = tt
-settled-lines schema Parent (w ∷ ws) r behind t = (t.0 behind, settled-lines schema Parent ws (after_at schema Parent w r) behind t.1)
-settled-lines schema Child (w ∷ ws) r behind t = (t.0 behind, settled-lines schema Child ws (after_at schema Child w r) behind t.1)
+pub settled-lines : (schema : Schema) (side : Side) (ws : List What) (r : Reading) (following : List Line) → SettledPass schema side (other_of side r) r.lines ws (end_reading_of side r) → LinesPass schema (settled_test schema) r (map (line_at side) ws) following
+settled-lines schema side [] r following t = tt
+settled-lines schema Parent (w ∷ ws) r following t = (t.0 following, settled-lines schema Parent ws (after_at schema Parent w r) following t.1)
+settled-lines schema Child (w ∷ ws) r following t = (t.0 following, settled-lines schema Child ws (after_at schema Child w r) following t.1)
 
 -- a line that settles nothing
 abbrev SettlesNothing : What → Type 0
@@ -87,10 +88,10 @@ module _ (schema : Schema) (side : Side) (others : EndReading) where
   abbrev pub Pass : ℕ → List What → EndReading → Type 0
   Pass place ws own = SettledPass schema side others place ws own
 
-  nothing-passes : (w : What) (own : EndReading) (behind : List Line) → SettlesNothing w → settled_line schema side own others w behind ≡ true
-  nothing-passes (what.Resolved n vs) own behind none = absurd none
-  nothing-passes (what.Rejected n reason) own behind none = absurd none
-  nothing-passes _ own behind none = refl
+  nothing-passes : (w : What) (own : EndReading) (following : List Line) → SettlesNothing w → settled_line schema side own others w following ≡ true
+  nothing-passes (what.Resolved n vs) own following none = absurd none
+  nothing-passes (what.Rejected n reason) own following none = absurd none
+  nothing-passes _ own following none = refl
 
   quiet-pass : (place : ℕ) (ws : List What) (own : EndReading) → AllByRecursion SettlesNothing ws → Pass place ws own
   quiet-pass place [] own none = tt
@@ -147,15 +148,15 @@ module _ (schema : Schema) (side : Side) (others : EndReading) where
   fall-next [] id why tail more = and-true (same_side side side) (int_eq id id) (same-own side) (int-same id)
   fall-next (n ∷ ns) id why tail more = fall-next ns id why tail more
 
-  destroyed-next : (own : EndReading) (n id : ℤ) (behind : List Line) → GoesTo (promise_reading own) id n → falls_next side id behind ≡ true → is_destroyed schema side own others n behind ≡ true
+  destroyed-next : (own : EndReading) (n id : ℤ) (following : List Line) → GoesTo (promise_reading own) id n → falls_next side id following ≡ true → is_destroyed schema side own others n following ≡ true
   unfolding is_destroyed promise_falls_next
-  destroyed-next own n id behind goes next = by (says_destroyed schema own others n) (next-route (find (λ (r : Request). int_eq r.seq n) (requests_of own.sent)) goes)
+  destroyed-next own n id following goes next = by (reports_destroyed schema own others n) (next-route (find (λ (r : Request). int_eq r.seq n) (requests_of own.sent)) goes)
     where
-      next-route : (found : Option Request) → option_map (λ (r : Request). r.route) found ≡ Some id → option_map_or (λ (r : Request). falls_next side r.route behind) found false ≡ true
+      next-route : (found : Option Request) → option_map (λ (r : Request). r.route) found ≡ Some id → option_map_or (λ (r : Request). falls_next side r.route following) found false ≡ true
       next-route None e = cc
-      next-route (Some r) e = ap (λ (x : ℤ). falls_next side x behind) (same_Some r.route id e) ∙ next
+      next-route (Some r) e = ap (λ (x : ℤ). falls_next side x following) (same_Some r.route id e) ∙ next
 
-      by : (b : Bool) → promise_falls_next side own n behind ≡ true → (if b then true else promise_falls_next side own n behind) ≡ true
+      by : (b : Bool) → promise_falls_next side own n following ≡ true → (if b then true else promise_falls_next side own n following) ≡ true
       by true e = refl
       by false e = e
 
@@ -166,16 +167,16 @@ module _ (schema : Schema) (side : Side) (others : EndReading) where
     falling-pass (place + 1) ns id why (settling n own) d.1 (later-unsettled (promise_reading own) n ns d.0 h.1) goes.1,
   )
 
-  -- what is unsettled behind others that were settled
+  -- what is unsettled after others that were settled
   others-unsettled : (read : PromiseReading) (ns ms : List ℤ) → AreDistinct (ns ++ ms) → AllByRecursion (IsUnsettled read) ms → AllByRecursion (IsUnsettled (record read { settled = read.settled ++ ns })) ms
   others-unsettled read [] ms d h = subst (λ (l : List ℤ). AllByRecursion (IsUnsettled (record read { settled = l })) ms) (sym (append-nil read.settled)) h
   others-unsettled read (n ∷ ns) ms d h =
-      let one : AllByRecursion (IsUnsettled (record read { settled = read.settled ++ n ∷ [] })) ms = later-unsettled read n ms (all-behind ns ms d.0) h in
+      let one : AllByRecursion (IsUnsettled (record read { settled = read.settled ++ n ∷ [] })) ms = later-unsettled read n ms (all-following ns ms d.0) h in
       subst (λ (l : List ℤ). AllByRecursion (IsUnsettled (record read { settled = l })) ms) (append_assoc read.settled (n ∷ []) ns) (others-unsettled (record read { settled = read.settled ++ n ∷ [] }) ns ms d.1 one)
     where
-      all-behind : (xs ys : List ℤ) → AllByRecursion (λ later. n ≢ later) (xs ++ ys) → AllByRecursion (λ later. n ≢ later) ys
-      all-behind [] ys h = h
-      all-behind (x ∷ xs) ys h = all-behind xs ys h.1
+      all-following : (xs ys : List ℤ) → AllByRecursion (λ later. n ≢ later) (xs ++ ys) → AllByRecursion (λ later. n ≢ later) ys
+      all-following [] ys h = h
+      all-following (x ∷ xs) ys h = all-following xs ys h.1
 
   distinct-both : (ns ms : List ℤ) → AreDistinct (ns ++ ms) → AreDistinct ns × AreDistinct ms
   distinct-both [] ms d = (tt, d)
@@ -230,7 +231,7 @@ module _ (schema : Schema) (side : Side) (others : EndReading) where
 
   -- Later parts
 
-  -- in a closing the event is that of one
+  -- in a closing the event is a closing
   abbrev pub ClosesWith : Phase → EndReading → Type 0
   ClosesWith p own = (why : Destroy) → p.due ≡ closing why → is_close_event own.event ≡ true
 
@@ -298,9 +299,9 @@ module _ (schema : Schema) (side : Side) (others : EndReading) where
   fails-nothing [] = tt
   fails-nothing (n ∷ ns) = (tt, fails-nothing ns)
 
-  outcome-pass : (own : EndReading) (n : ℤ) (outcome : Outcome) (behind : List Line) → is_unsettled own n ≡ true → has_cause schema side others own (take.settle_line n outcome) behind ≡ true → settled_line schema side own others (take.settle_line n outcome) behind ≡ true
-  outcome-pass own n (Resolved vs) behind first cause = and-true (is_unsettled own n) (is_resolved schema own others n vs) first cause
-  outcome-pass own n (Rejected reason) behind first cause = and-true (is_unsettled own n) (is_cause schema side own others n behind reason) first cause
+  outcome-pass : (own : EndReading) (n : ℤ) (outcome : Outcome) (following : List Line) → is_unsettled own n ≡ true → has_cause schema side others own (take.settle_line n outcome) following ≡ true → settled_line schema side own others (take.settle_line n outcome) following ≡ true
+  outcome-pass own n (Resolved vs) following first cause = and-true (is_unsettled own n) (is_resolved schema own others n vs) first cause
+  outcome-pass own n (Rejected reason) following first cause = and-true (is_unsettled own n) (is_cause schema side own others n following reason) first cause
 
   pub awaited-unsettled : (read : PromiseReading) (n : ℤ) (promises : List PromiseEntry) → AllByRecursion (λ entry. is_pending entry.promise ≡ true → IsUnsettled read (promise_seq entry)) promises → take.is_awaited n promises ≡ true → IsUnsettled read n
   awaited-unsettled read n [] h e = cc
@@ -386,7 +387,7 @@ module _ (schema : Schema) (side : Side) (others : EndReading) where
   event-left place w own (rejected n reason) = refl
   event-left place w own (fell id why) = refl
 
-  -- a closing that is due behind a later part was due before
+  -- a closing that is due after a later part was due before
   later-due : {p q : Phase} {e f : End} {ws : List What} {ps : List Packet} → LaterPart p e ws ps f q → (why : Destroy) → q.due ≡ closing why → p.due ≡ closing why
   later-due (Parts.unnames name may silent) why due = due
   later-due (Parts.lets_go name r may held o) why due = due

@@ -18,7 +18,8 @@ use Rattle.promise_table.specs.declared.promise.Promise.{Promise}
 use Rattle.promise_table.specs.Promises.{is_pending, has_number, settled}
 use Rattle.channel_model.specs.Answers as answering
 use Rattle.channel_model.specs.Deliveries as delivery
-use Rattle.channel_model.specs.Numbers.{top_id, protocol_of}
+use Rattle.ipdl_base.specs.Sides.{top_id}
+use Rattle.channel_model.specs.Numbers.{protocol_of}
 use Rattle.channel_model.specs.Sends as send
 use Rattle.channel_model.specs.ValueActors.{lives_as}
 use Rattle.channel_model.specs.Ends.{End, Packet, PromiseEntry}
@@ -26,7 +27,7 @@ use Rattle.channel_model.specs.Events.{Answering, handled, kept, Event}
 use Rattle.channel_model.specs.Falls as fall
 use Rattle.channel_model.specs.Outputs.{is_open, is_closed}
 use Rattle.channel_model.specs.Parts
-use Rattle.channel_model.specs.Parts.{OwnParts, FirstPart, LaterPart, LaterParts, DeliveryPart, end_behind, left_end}
+use Rattle.channel_model.specs.Parts.{OwnParts, FirstPart, LaterPart, LaterParts, DeliveryPart, end_after, left_end}
 use Rattle.channel_model.specs.Phases.{Phase}
 use Rattle.channel_model.specs.States.{IsSettled, IsInState}
 use Rattle.channel_model.specs.Takes.{settled_entry}
@@ -68,15 +69,15 @@ rejected-stays test why (entry ∷ promises) h = (by (fall.passes test entry), r
     by true = refl
     by false = h.0
 
-behind-stays : (b : Bool) (e : End) → AreSettled e.promises → AreSettled (end_behind b e).promises
-behind-stays true e h = h
-behind-stays false e h = h
+following-stays : (b : Bool) (e : End) → AreSettled e.promises → AreSettled (end_after b e).promises
+following-stays true e h = h
+following-stays false e h = h
 
 without-stays : (by : Answering) (e : End) → AreSettled e.promises → AreSettled (answering.without_resolver by e).promises
 without-stays (handled seq) e h = h
 without-stays (kept name number) e h = h
 
--- only an open end sends, and that has not closed
+-- only an open end, which has not closed, sends
 over-open : (s : EndState) (b : Bool) → is_open s ≡ true → Over s b → b ≡ false
 over-open Open b is h = h
 over-open Draining b is h = cc
@@ -104,12 +105,12 @@ module _ (schema : Schema) where
   first-stays own (Parts.dies open_end) over o h = h
   first-stays own (Parts.dies_silent open_end alive) over o h = h
   first-stays own (Parts.takes m sync level row vs next body found stays) over o h = h
-  first-stays {e} own (Parts.drops m sync level row vs id replies next body found gone is) over o h = behind-stays replies (left_end e) h
+  first-stays {e} own (Parts.drops m sync level row vs id replies next body found gone is) over o h = following-stays replies (left_end e) h
   first-stays own (Parts.drops_unknown m sync level vs next body found) over o h = h
   first-stays own (Parts.takes_reply m sync level a next body late) over o h = h
   first-stays {e} own (Parts.settles m sync level row a next body found awaited) over o h = settled-stays m.seq (Parts.reply_outcome schema e row a) e.promises h
   first-stays own (Parts.shuts last next is) over o h = h
-  first-stays {e} own (Parts.returns entry row vs told_it lost may t l) over o h = behind-stays lost (end_behind told_it (record e { stack = drop 1 e.stack })) (behind-stays told_it (record e { stack = drop 1 e.stack }) h)
+  first-stays {e} own (Parts.returns entry row vs told_it lost may t l) over o h = following-stays lost (end_after told_it (record e { stack = drop 1 e.stack })) (following-stays told_it (record e { stack = drop 1 e.stack }) h)
   first-stays own (Parts.resumes wait row on_top found) over o h = h
 
   later-stays : {p q : Phase} {e f : End} {ws : List What} {ps : List Packet} → LaterPart p e ws ps f q → AreSettled e.promises → AreSettled f.promises
@@ -128,13 +129,13 @@ module _ (schema : Schema) where
 
   delivery-stays : {packet : Packet} {q : Phase} {e f : End} {ws : List What} {ps : List Packet} → DeliveryPart schema packet e ws ps f q → AreSettled e.promises → AreSettled f.promises
   delivery-stays (Parts.gets_request m row vs body found none) h = h
-  delivery-stays {e = e} (Parts.replaces m row vs old sync level replies body found is told_it) h = behind-stays replies (delivery.counted row (delivery.item_of row m) e) h
+  delivery-stays {e = e} (Parts.replaces m row vs old sync level replies body found is told_it) h = following-stays replies (delivery.counted row (delivery.item_of row m) e) h
   delivery-stays (Parts.gets_answer m row a body found is) h = h
   delivery-stays (Parts.gets_reply m row a body found is) h = h
   delivery-stays (Parts.drains packet is) h = h
   delivery-stays (Parts.passes_by m is found) h = h
 
-  -- Later parts leave the state, and whether the end has closed
+  -- Later parts change neither the state nor whether the end has closed
 
   over-left : (place : ℕ) (w : What) (own : EndReading) → IsEffectLine w → (after_what schema place w own).over ≡ own.over
   over-left place w own (built id protocol) = refl
@@ -159,7 +160,7 @@ module _ (schema : Schema) where
   laters-state Parts.done = refl
   laters-state (Parts.then part rest) = laters-state rest ∙ later-state part
 
-  -- an end that closes is closed behind the step, or had closed before
+  -- an end that closes is closed after the step, or had closed before
   own-over : HasSoundRows schema → (place : ℕ) (own : EndReading) {q : Phase} {e f : End} {ws : List What} {ps : List Packet} → OwnParts schema e ws ps f q → ReadsActors schema e own → (after_whats schema place ws own).over ≡ true → (is_closed f.state ≡ true) ⊎ (own.over ≡ true)
   own-over rows place own {f = g} (Parts.begun {f} {ws} {vs} part rest ended) actors over =
       let at = whats-append schema place ws vs own in

@@ -8,7 +8,7 @@ use Rattle.ipdl_base.specs.declared.schema.Schema.{Schema}
 use Rattle.ipdl_base.specs.Sound.{IsSound}
 use Rattle.channel_model.specs.Ends.{End, World, Packet, end_of, link_to, opening}
 use Rattle.channel_model.specs.Events.{Event}
-use Rattle.channel_model.specs.Numbers.{other}
+use Rattle.ipdl_base.specs.Sides.{other}
 use Rattle.channel_model.specs.Outputs.{Output, is_open}
 use Rattle.channel_model.specs.Phases.{Phase}
 use Rattle.channel_model.specs.Runs.{run, history_of, world_after}
@@ -29,7 +29,7 @@ use Rattle.channel_laws.specs.Tested.{LinesPass, read_from}
 use Rattle.channel_laws.proofs.EveryRun.{end-side}
 use Rattle.channel_laws.proofs.Exchanges.{opening-exchanges}
 use Rattle.channel_laws.proofs.FallenRuns.{fallen-keeps_moves}
-use Rattle.channel_laws.proofs.Holding.{holds-in-runs}
+use Rattle.channel_laws.proofs.DeferralContext.{holds-in-runs}
 use Rattle.channel_laws.proofs.Moves.{StepParts, acts, delivers}
 use Rattle.channel_laws.proofs.ReadAlike.{protocols-at}
 use Rattle.channel_laws.proofs.Reached.{actors-reached, noted-reached, protocols-reached}
@@ -43,12 +43,12 @@ use Rattle.channel_laws.proofs.SettledMoments.{OverSettles, step-settles, moment
 use Rattle.channel_laws.proofs.Taken.{ReadExchanges, exchanges-keep}
 use Rattle.channel_laws.proofs.Testing.{pass-both}
 
--- What an end reads of replies, and that it has settled its promises where it has closed.
+-- What an end reads of replies, and that it has settled its promises if it has closed.
 pub record SettlesPromises (schema : Schema) (e : End) (own : EndReading) : Type 0 where
   pub replies : ReadsReplies schema e own
   pub over : OverSettles schema e own
 
--- the end of a step is that of its side in the world behind it
+-- the end of a step is that of its side in the world after it
 state-after : (schema : Schema) (side : Side) (ev : Event) (w : World) (r : Reading) (output : Output) → AtEnds schema (ReadsActors schema) (world_after (record { side = side; event = ev }) output w) r → IsInState output.end
 state-after schema Parent ev w r output k = k.0.state
 state-after schema Child ev w r output k = k.1.state
@@ -114,9 +114,9 @@ module _ (schema : Schema) (sound : IsSound schema) where
                 over = step-settles schema rows r.lines e own (link_to side w) m.ends.parts actors.0 m.ends.before.outlined after settles.0.over;
               }) settles.1,
         );
-        passes = λ behind. pass-both schema (moment_at (moment_test law.Settled schema)) (settled_test schema) r output.lines behind
-            (moments-pass schema (moment_test law.Settled schema) move w r output behind m.step (moment-is w r k))
-            (subst (λ (ls : List Line). LinesPass schema (settled_test schema) r ls behind) (sym (side-lines e side output.lines m.ends.whats (end-side schema side w m.nested) m.ends.lines)) (settled-lines schema side m.ends.whats r behind pass));
+        passes = λ following. pass-both schema (moment_at (moment_test law.Settled schema)) (settled_test schema) r output.lines following
+            (moments-pass schema (moment_test law.Settled schema) move w r output following m.step (moment-is w r k))
+            (subst (λ (ls : List Line). LinesPass schema (settled_test schema) r ls following) (sym (side-lines e side output.lines m.ends.whats (end-side schema side w m.nested) m.ends.lines)) (settled-lines schema side m.ends.whats r following pass));
       }
 
   opening-settles : (top : ℕ) → AtEnds schema (SettlesPromises schema) (opening top) opening_reading

@@ -50,7 +50,7 @@ found-each [] d = tt
 found-each (r ∷ requests) d =
     (ap (λ (b : Bool). cond b (Some r) (find (λ (y : Request). int_eq y.seq r.seq) requests)) (int-same r.seq), found-later r requests requests d.0 (found-each requests d.1))
 
--- a promise's request is found by its number, wants a reply, and goes to the promise's actor
+-- a promise's request is found by its number, makes a promise, and goes to the promise's actor
 abbrev pub IsOwn : List Request → Promised → Type 0
 IsOwn all p = (r : Request) × (find (λ x. int_eq x.seq p.seq) all ≡ Some r) × (r.wants ≡ true) × (r.route ≡ p.route)
 
@@ -83,7 +83,7 @@ module _ (side : Side) (promises : List PromiseEntry) (count : ℕ) (read : Prom
         both-entries some o.1 r.1,
       )
 
-  -- and goes to its actor
+  -- and it goes to its actor
   pub entries-go : AllByRecursion (λ entry. GoesTo read entry.promise.actor (promise_seq entry)) promises
   entries-go = each promises own-entries
     where
@@ -113,7 +113,7 @@ passing-distinct test (entry ∷ promises) d = by (test entry) (passing-distinct
     by true rest = (all-passing (λ later. promise_seq entry ≢ later) test promises (each promises d.0), rest)
     by false rest = rest
 
--- what passes is pending
+-- a promise that passes is pending
 pub passing-unsettled : (side : Side) (promises : List PromiseEntry) (count : ℕ) (read : PromiseReading) (test : Promise → Bool) → HasPromises side promises count read → AllByRecursion (IsUnsettled read) (numbers_passing (passes test) promises)
 passing-unsettled side promises count read test h =
     all-passing (IsUnsettled read) (passes test) promises

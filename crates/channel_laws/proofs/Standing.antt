@@ -1,4 +1,4 @@
--- Who was built and has not fallen.
+-- The actors that were built and have not fallen.
 use Rattle.std.proofs.Common.{◌≡◌, inl, inr, ℤ, Bool, true, false, not, ◌&&◌, ◌||◌, cond, if◌then◌else◌, int_eq, List, [], ◌∷◌, ◌++◌, find, map, Option, Some, is_some, refl, sym, ap, ◌∙◌}
 use Rattle.std.specs.List.{list_any}
 use Rattle.std.proofs.lemmas.Bool.{cases_Bool}
@@ -33,7 +33,7 @@ filter-if : (g : List ℤ) (b : Bool) (x : BuiltActor) (xs : List BuiltActor) �
 filter-if g true x xs = refl
 filter-if g false x xs = refl
 
--- who stands behind more falls
+-- the actors that remain after more falls
 standing-more : (f g : List ℤ) (xs : List BuiltActor) → standing (f ++ g) xs ≡ standing g (standing f xs)
 standing-more f g [] = refl
 standing-more f g (x ∷ xs) =
@@ -59,11 +59,11 @@ others-shown fs (x ∷ xs) =
     ap (λ (b : Bool). cond (not b) (shown_actor x ∷ standing (ids_in fs) (map shown_actor xs)) (standing (ids_in fs) (map shown_actor xs))) (sym (lives-has fs x.id))
     ∙ (ap (λ (ys : List BuiltActor). cond (not (lives x.id fs)) (shown_actor x ∷ ys) ys) (others-shown fs xs) ∙ sym (map-if (not (lives x.id fs)) x (others fs xs)))
 
--- behind falls the others stand
+-- after falls the other actors remain
 pub standing-falls : (built : List BuiltActor) (fallen : List ℤ) (fs actors : List Actor) → standing fallen built ≡ map shown_actor actors → standing (fallen ++ ids_in fs) built ≡ map shown_actor (others fs actors)
 standing-falls built fallen fs actors e = standing-more fallen (ids_in fs) built ∙ (ap (standing (ids_in fs)) e ∙ others-shown fs actors)
 
--- one who is built stands last
+-- an actor that is built comes last
 pub standing-last : (f : List ℤ) (xs : List BuiltActor) (x : BuiltActor) → has f x.id ≡ false → standing f (xs ++ x ∷ []) ≡ standing f xs ++ x ∷ []
 standing-last f [] x e = ap (λ (b : Bool). cond (not b) (x ∷ []) []) e
 standing-last f (y ∷ ys) x e = ap (λ (zs : List BuiltActor). cond (is_standing f y) (y ∷ zs) zs) (standing-last f ys x e) ∙ by (is_standing f y)
@@ -72,7 +72,7 @@ standing-last f (y ∷ ys) x e = ap (λ (zs : List BuiltActor). cond (is_standin
     by true = refl
     by false = refl
 
--- Who lives by the lines lives
+-- An actor that lives by the lines lives
 
 and-false : (b c : Bool) → c ≡ false → b && c ≡ false
 and-false true c e = e
@@ -104,11 +104,11 @@ shown-lives : (xs : List Actor) (id : ℤ) → was_built (map shown_actor xs) id
 shown-lives [] id = refl
 shown-lives (x ∷ xs) id = found-or (int_eq x.id id) x (find (λ (a : Actor). int_eq a.id id) xs) (was_built (map shown_actor xs) id) (sym (shown-lives xs id))
 
--- who was built and has not fallen lives
+-- an actor that was built and has not fallen lives
 pub lives-read : (built : List BuiltActor) (fallen : List ℤ) (actors : List Actor) (id : ℤ) → standing fallen built ≡ map shown_actor actors → was_built built id && not (has fallen id) ≡ lives id actors
 lives-read built fallen actors id k = sym (built-standing fallen built id) ∙ (ap (λ (xs : List BuiltActor). was_built xs id) k ∙ shown-lives actors id)
 
--- so one that lives was built and has not fallen
+-- so an actor that lives was built and has not fallen
 pub alive-unfallen : (built : List BuiltActor) (fallen : List ℤ) (actors : List Actor) (id : ℤ) → standing fallen built ≡ map shown_actor actors → lives id actors ≡ true → has fallen id ≡ false
 alive-unfallen built fallen actors id k alive = by (was_built built id) (has fallen id) (lives-read built fallen actors id k ∙ alive)
   where
@@ -143,7 +143,7 @@ built-more (y ∷ ys) x id e = by (int_eq y.id id) (built-more ys x id) e
     by true rec e = refl
     by false rec e = rec e
 
--- Tests of those who stand
+-- Tests of the actors that have not fallen
 
 under-one : (m : ℤ) (x : BuiltActor) (b : Bool) (xs : List BuiltActor) → list_any (λ (a : BuiltActor). int_eq a.manager m) (cond (not b) (x ∷ xs) xs) ≡ (if not b then int_eq x.manager m || list_any (λ (a : BuiltActor). int_eq a.manager m) xs else list_any (λ (a : BuiltActor). int_eq a.manager m) xs)
 under-one m x true xs = refl
@@ -155,7 +155,7 @@ and-or true false rest = refl
 and-or false true rest = refl
 and-or false false rest = refl
 
--- who lives under a manager stands under it
+-- some actor lives under a manager exactly where one that has not fallen is under it
 pub under-standing : (f : List ℤ) (m : ℤ) (xs : List BuiltActor) → list_any (is_living_under f m) xs ≡ list_any (λ (a : BuiltActor). int_eq a.manager m) (standing f xs)
 under-standing f m [] = refl
 under-standing f m (x ∷ xs) =

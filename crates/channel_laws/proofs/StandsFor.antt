@@ -1,4 +1,4 @@
--- An id stands for one protocol, and goes on to; who lives as one of its protocol is who lives.
+-- An id has one protocol, and keeps it; an actor that lives as one of its protocol is the one that lives.
 use Rattle.std.proofs.Common.{◌≡◌, inl, inr, ℕ, ◌+◌, ◌*◌, ◌==◌, ℤ, pos, Bool, true, false, not, ◌&&◌, ◌||◌, int_eq, List, [], ◌∷◌, ◌++◌, cond, find, length, Option, Some, None, is_some, refl, sym, ap, subst, ◌∙◌, append_assoc, arith}
 use Rattle.std.specs.List.{AllByRecursion, list_any}
 use Rattle.std.specs.Option.{option_map_or}
@@ -31,7 +31,7 @@ same-place [] (y ∷ ys) p q cs ds e l = absurd (omega arith)
 same-place (x ∷ xs) [] p q cs ds e l = absurd (omega arith)
 same-place (x ∷ xs) (y ∷ ys) p q cs ds e l = same-place xs ys p q cs ds (cons-tail e) (omega arith)
 
--- An id stands for one protocol
+-- An id has one protocol
 
 same-constructed : (side : Side) (protocols : List ℕ) (id : ℤ) (p q : ℕ) → IsConstructed side protocols id p → IsConstructed side protocols id q → p ≡ q
 same-constructed side protocols id p q a b =
@@ -56,7 +56,7 @@ stands-not_null made id p (inr (inr a)) e = not_null Child (length a.before) (sy
 
 -- More is constructed
 
--- the protocols with more that a side has constructed
+-- the protocols, with more actors that a side has constructed
 abbrev pub constructing : Side → List ℕ → Protocols → Protocols
 constructing Parent more made = record { top = made.top; parent = made.parent ++ more; child = made.child }
 constructing Child more made = record { top = made.top; parent = made.parent; child = made.child ++ more }
@@ -84,7 +84,7 @@ module _ (made : Protocols) (actors : List Actor) (known : AllByRecursion (Actor
       let is : a.id ≡ id = (Decides-int_eq a.id id).0 (found-passes (λ (x : Actor). int_eq x.id id) actors a found) in
       subst (λ (n : ℤ). StandsFor made n a.protocol) is (all-found (ActorHasProtocol made) (λ (x : Actor). int_eq x.id id) actors a known found)
 
-  -- one that lives as one of a protocol stands for it
+  -- an id that lives as one of a protocol has that protocol
   pub lives-stands : (protocol : ℕ) (id : ℤ) → lives_as actors protocol id ≡ true → StandsFor made id protocol
   lives-stands protocol id e = by (actor_of id actors) refl e
     where
@@ -92,7 +92,7 @@ module _ (made : Protocols) (actors : List Actor) (known : AllByRecursion (Actor
       by None is e = cc
       by (Some a) is e = subst (StandsFor made id) (eqb-true a.protocol protocol e) (found-stands id a is)
 
-  -- an actor with its protocol lives as one of that just where it lives
+  -- an actor with its protocol lives as one of that protocol exactly where it lives
   pub lives-alike : (a : ActorValue) → HasItsProtocol made a → lives_as actors a.protocol a.id ≡ lives a.id actors
   lives-alike a h = by (actor_of a.id actors) refl
     where
@@ -104,7 +104,7 @@ module _ (made : Protocols) (actors : List Actor) (known : AllByRecursion (Actor
       by None is = ap (λ (f : Option Actor). option_map_or (λ (b : Actor). b.protocol == a.protocol) f false) is ∙ sym (ap is_some is)
       by (Some b) is = ap (λ (f : Option Actor). option_map_or (λ (b : Actor). b.protocol == a.protocol) f false) is ∙ (same b (found-stands a.id b is) h ∙ sym (ap is_some is))
 
-  -- where none of some actors is dead, they have their protocols
+  -- if none of some actors is dead, they have their protocols
   pub none-dead : (few : List ActorValue) → list_any (λ (a : ActorValue). not (int_eq a.id (pos 0)) && is_dead actors a) few ≡ false → HaveTheirProtocols made few
   none-dead [] e = tt
   none-dead (a ∷ few) e = by (int_eq a.id (pos 0)) (lives_as actors a.protocol a.id) (list_any (λ (x : ActorValue). not (int_eq x.id (pos 0)) && is_dead actors x) few) refl refl e (none-dead few)
@@ -114,7 +114,7 @@ module _ (made : Protocols) (actors : List Actor) (known : AllByRecursion (Actor
       by false true d null alive e rec = (inr (lives-stands a.protocol a.id alive), rec e)
       by false false d null alive e rec = cc
 
-  -- an actor with its protocol does not live as one of another
+  -- an actor with its protocol does not live as one of another protocol
   lives-right : (a : ActorValue) → HasItsProtocol made a → lives_otherwise actors a.protocol a.id ≡ false
   lives-right a h = by (actor_of a.id actors) refl
     where

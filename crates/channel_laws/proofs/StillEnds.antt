@@ -1,4 +1,4 @@
--- An end whose lines tell that nothing but acts is possible has nothing to deliver, take, return, resume or flush.
+-- If the lines of an end show that only acts are possible, it has nothing to deliver, take, return, resume or flush.
 use Rattle.std.proofs.Common.{◌≡◌, ◌==◌, ℤ, Bool, true, false, not, ◌&&◌, if◌then◌else◌, List, [], ◌∷◌, cond, find, map, Option, Some, None, is_some, option_map, option_and_then, refl, sym, ap, subst, ◌∙◌}
 use Rattle.std.specs.List.{AllByRecursion}
 use Rattle.ipdl_base.specs.declared.kinds.EndState.{EndState}
@@ -40,7 +40,7 @@ use Rattle.channel_laws.specs.TwoEnds.{TwoEnds}
 use Rattle.channel_laws.proofs.HeadsAlike.{inner-alike, awaited-level, takes-alike}
 use Rattle.channel_laws.proofs.StillReads.{StillEnd, none-comes, InnerIsClear, some-free}
 
--- The inner transaction of a parent that awaits something is there
+-- A parent that awaits something has an inner transaction
 
 abbrev frames_in : List StackEntry → List StackFrame
 frames_in es = map (λ (x : StackEntry). x.frame) es
@@ -160,7 +160,7 @@ module _ (schema : Schema) (side : Side) (mine theirs : End) (own others : EndRe
       by true p = (none-comes schema theirs mine own others to_them t.their_outlined.state rests.delivers t.goes p).1
       by false p = ends-in-none to_me (none-comes schema mine theirs others own to_me t.outlined.state still.delivers t.comes o).0 (told p)
 
-  -- Nothing is possible at the end but acts.
+  -- Only acts are possible at the end.
   pub record NothingPossible : Type 0 where
     pub delivers : is_some (step schema mine to_me event.deliver) ≡ false
     pub takes : is_some (step schema mine to_me event.take) ≡ false

@@ -1,4 +1,4 @@
--- Where lines tell that nothing but acts is possible, nothing else is.
+-- If lines show that only acts are possible, nothing else is possible.
 use Rattle.std.proofs.Common.{◌≡◌, ℕ, ◌+◌, ◌<◌, nat_lt, ℤ, pos, Bool, true, false, not, ◌&&◌, ◌||◌, if◌then◌else◌, List, [], ◌∷◌, ◌++◌, cond, find, length, map, Option, Some, None, unwrap_or, refl, sym, ap, ◌∙◌, arith}
 use Rattle.std.specs.List.{AllByRecursion}
 use Rattle.std.proofs.lemmas.Bool.Decides.{Decides-ltb}
@@ -17,7 +17,7 @@ use Rattle.ipdl_base.specs.Deferral.{Arrival, request, reply, goodbye, mark as m
 use Rattle.nesting_core.specs.declared.frame.Head.{Head}
 use Rattle.pending_queue.specs.declared.item.Item.{Item}
 use Rattle.pending_queue.specs.declared.item.Item.TheVariants as item
-use Rattle.pending_queue.specs.Holding.{arrival_of, arrival_of_body}
+use Rattle.pending_queue.specs.DeferralContext.{arrival_of, arrival_of_body}
 use Rattle.history_reading.specs.EndReading.{EndReading}
 use Rattle.history_reading.specs.Still as lines
 use Rattle.channel_model.specs.Ends.{End, Packet, message}
@@ -85,7 +85,7 @@ can-deliver schema mine sender others own link x front back state o a is =
     ap (λ (b : Bool). b && nat_lt (length own.delivered) (length others.sent)) (ap lines.is_open state ∙ open-read mine.state o)
     ∙ (Decides-ltb (length own.delivered) (length others.sent)).1 (more-sent schema sender others own link x front back a is)
 
--- so nothing is on the link toward an open end, nor in the outbox of the other
+-- so nothing is on the link toward an open end, or in the outbox of the other
 pub none-comes : (schema : Schema) (mine sender : End) (others own : EndReading) (link : List Packet) → own.state ≡ mine.state → lines.can_deliver own others ≡ false → LinkAccount schema sender others own link → is_open mine.state ≡ true → (link ≡ []) × (sender.outbox ≡ [])
 none-comes schema mine sender others own [] state nothing a o = (refl, by sender.outbox refl)
   where
@@ -97,7 +97,7 @@ none-comes schema mine sender others own (p ∷ rest) state nothing a o =
 
 -- Takes
 
--- the inner transaction decides nothing where an end awaits nothing, at a child, or where it is there
+-- the inner transaction makes no difference where an end awaits nothing, at a child, or where there is one
 abbrev pub InnerIsClear : Side → Option Level → Option ℤ → Type 0
 InnerIsClear Child level inner = Unit {0}
 InnerIsClear Parent None inner = Unit {0}
@@ -148,7 +148,7 @@ module _ (schema : Schema) (side their_side : Side) (open_end : Bool) (outbox : 
       by (Fault r) h i = reply-same sync h d.level
       by Goodbye h i = goodbye-same d.level
 
-  -- so where one is free by itself, one is by the lines
+  -- so if an item is free at the end, one is free by the lines
   pub some-free : (items : List Item) (x : Item) → AllByRecursion (ItemHead schema) items → AllByRecursion (ItemIsNoted schema (told_notes their_side others.sent)) items → find (λ (y : Item). not (Deferred (arrival_of y))) items ≡ Some x → lines.some_is_free schema others d (map item_kind items) ≡ true
   some-free [] x h i e = cc
   some-free (y ∷ ys) x h i e = by (Deferred (arrival_of y)) (lines.defers_packet schema others d (item_kind y)) (item-same y h.0 i.0) e (some-free ys x h.1 i.1)

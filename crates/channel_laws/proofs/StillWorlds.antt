@@ -84,7 +84,7 @@ still_ends_wait_for_nothing schema sound top moves side still =
     (rests-at schema w Parent (and-left (is_still_at schema w Parent) (is_still_at schema w Child) still))
     (rests-at schema w Child (and-right (is_still_at schema w Parent) (is_still_at schema w Child) still)))
 
--- a stack that awaits nothing has no wait without an answer
+-- a stack that awaits nothing has no unanswered wait
 awaits-answered : (frames : List StackFrame) → awaited frames ≡ None → AllByRecursion IsAnswered frames
 awaits-answered [] h = tt
 awaits-answered (Dispatch head ∷ frames) h = (refl, awaits-answered frames h)
@@ -105,14 +105,14 @@ answered-none (frame ∷ frames) h = ap (λ (b : Bool). cond b (frame ∷ filter
 waits-for_none : (side : Side) (seq : ℤ) (w : World) → AllByRecursion IsAnswered (frames_of (end_of side w)) → waits_for side seq w ≡ false
 waits-for_none side seq w h = ap (λ (frames : List StackFrame). list_any (λ n. int_eq n seq) (map (λ (frame : StackFrame). (head_of frame).seq) frames)) (answered-none (frames_of (end_of side w)) h)
 
--- where a wait stands, and does not behind some moves, one of these ends it
+-- if a wait is there, and is not there after some moves, one of these ends it
 ends-wait : (schema : Schema) (side : Side) (seq : ℤ) (w : World) (moves : List Move) → waits_for side seq w ≡ true → waits_for side seq (run schema moves w).world ≡ false → EndsWait schema side seq w moves
 ends-wait schema side seq w [] h gone = let k : true ≡ false = sym h ∙ gone in cc
 ends-wait schema side seq w (move ∷ moves) h gone = by (waits_for side seq (happens schema w move).world) refl (λ k. ends-wait schema side seq (happens schema w move).world moves k gone)
   where
     by : (b : Bool) → waits_for side seq (happens schema w move).world ≡ b → (waits_for side seq (happens schema w move).world ≡ true → EndsWait schema side seq (happens schema w move).world moves) → EndsWait schema side seq w (move ∷ moves)
-    by false is later = record { before = []; move = move; behind = moves; whole = refl; stands = h; gone = is }
-    by true is later = let e = later is in record { before = move ∷ e.before; move = e.move; behind = e.behind; whole = ap (λ (ms : List Move). move ∷ ms) e.whole; stands = e.stands; gone = e.gone }
+    by false is later = record { before = []; move = move; following = moves; whole = refl; stands = h; gone = is }
+    by true is later = let e = later is in record { before = move ∷ e.before; move = e.move; following = e.following; whole = ap (λ (ms : List Move). move ∷ ms) e.whole; stands = e.stands; gone = e.gone }
 
 all_ended : (schema : Schema) → IsSound schema → (top : ℕ) (front back : List Move) (side : Side) (seq : ℤ) → waits_for side seq (world_of schema top front) ≡ true → is_still schema (world_of schema top (front ++ back)) ≡ true → EndsWait schema side seq (world_of schema top front) back
 all_ended schema sound top front back side seq h still =

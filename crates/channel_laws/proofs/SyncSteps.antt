@@ -1,4 +1,4 @@
--- What a step of an open end is among sync requests.
+-- The effect of a step of an open end on sync requests.
 use Rattle.std.proofs.Common.{◌≡◌, false, List, [], ◌∷◌, refl, sym, ap, subst, map, ◌∙◌}
 use Rattle.std.specs.List.{AllByRecursion}
 use Rattle.ipdl_base.specs.declared.kinds.Side.{Side}
@@ -18,18 +18,18 @@ use Rattle.channel_laws.specs.SyncStack.{Shows}
 use Rattle.nesting_laws.specs.Calls.{SyncPacket, farewell, sync_end, SyncFrame}
 use Rattle.nesting_laws.specs.Steps.{Step}
 
--- The end stays open and nothing of sync requests happens; or a step of them; or it closes or dies, and that is the last
--- that it sends; or it hears that the other end has.
+-- The end stays open and nothing happens with sync requests; or a step with them happens; or the end closes or dies,
+-- which is the last that it sends; or it receives the last packet of the other end.
 pub data SyncStep (schema : Schema) (e : End) (stack : List SyncFrame) (link rest : List Packet) (o : Output) : Type 0 where
   no_step : IsOpenEnd schema o.end stack → sync_calls o.end.arrived ≡ sync_calls e.arrived → sync_packets schema rest ≡ sync_packets schema link → sync_packets schema o.packets ≡ [] → AllByRecursion (PacketAgrees schema) o.packets → SyncStep schema e stack link rest o
   one_step : {new : List SyncFrame} → IsOpenEnd schema o.end new → Step e.side (sync_end stack (sync_calls e.arrived) (sync_packets schema link)) (sync_end new (sync_calls o.end.arrived) (sync_packets schema rest)) (sync_packets schema o.packets) → AllByRecursion (PacketAgrees schema) o.packets → SyncStep schema e stack link rest o
   ends : is_open o.end.state ≡ false → (o.end.state ≡ Draining → ⊥) → AllByRecursion IsAnswered (frames_of o.end) → EndsInLastPacket o.packets → sync_packets schema o.packets ≡ farewell ∷ [] → AllByRecursion (PacketAgrees schema) o.packets → SyncStep schema e stack link rest o
-  drains : {behind : List SyncPacket} → o.end.state ≡ Draining → AllByRecursion IsAnswered (frames_of o.end) → o.packets ≡ [] → sync_packets schema link ≡ farewell ∷ behind → SyncStep schema e stack link rest o
+  drains : {following : List SyncPacket} → o.end.state ≡ Draining → AllByRecursion IsAnswered (frames_of o.end) → o.packets ≡ [] → sync_packets schema link ≡ farewell ∷ following → SyncStep schema e stack link rest o
 
 abbrev pub track_of : End → Track
 track_of e = record { side = e.side; stack = e.stack; arrived = e.arrived; sent = [] }
 
--- an end before it has sent anything, that is open as another is
+-- an end before it has sent anything, which is open as another end is
 pub at-start : (schema : Schema) (e next : End) (stack : List SyncFrame) → next.state ≡ e.state → next.names ≡ e.names → next.outbox ≡ e.outbox → IsOpenEnd schema e stack → IsOnTrack schema (track_of next) next []
 at-start schema e next stack s n o h = record {
   side_is = refl;

@@ -1,4 +1,4 @@
--- In every run what is taken is there, and ends keep what they read of requests and replies.
+-- In every run what is taken has arrived, and ends keep what they read of requests and replies.
 use Rattle.std.proofs.Common.{◌≡◌, ℕ, ◌+◌, ◌≤◌, ℤ, true, List, ◌∷◌, ◌++◌, drop, map, Some, refl, sym, ap, subst, ◌∙◌}
 use Rattle.ipdl_base.specs.declared.kinds.Side.{Side}
 use Rattle.ipdl_base.specs.declared.line.What.{What}
@@ -12,7 +12,8 @@ use Rattle.nesting_core.specs.declared.frame.Answer.TheVariants as answer
 use Rattle.channel_model.specs.Ends.{End, World, Packet, message, mark, end_of, link_to}
 use Rattle.channel_model.specs.Events.{Event}
 use Rattle.channel_model.specs.Steps.{first_packet}
-use Rattle.channel_model.specs.Numbers.{other, seq_of, is_sync_row}
+use Rattle.ipdl_base.specs.Sides.{other}
+use Rattle.channel_model.specs.Numbers.{seq_of, is_sync_row}
 use Rattle.channel_model.specs.Outputs.{is_open}
 use Rattle.channel_model.specs.Phases.{Phase}
 use Rattle.history_reading.specs.EndReading.{EndReading}
@@ -46,7 +47,7 @@ there-free others own (what.Drop n route number id) e = cc
 there-free others own (what.TakeReply n) e = cc
 there-free others own _ e = refl
 
--- what an end takes is there
+-- what an end takes has arrived
 takes-there : (schema : Schema) (others : EndReading) (e : End) (own : EndReading) → ArrivalsAreRead e own → ((n : ℤ) → replies_delivered (arrival_reading own) n ≤ 1) → TakesPass schema (λ read w. there_line read others w ≡ true) e own
 takes-there schema others e own h once = record {
   takes = λ m sync level row vs next body found. request-there e own m sync level vs h next body;
@@ -94,5 +95,5 @@ module _ (schema : Schema) (sound : IsSound schema) where
       let p = parts-keep (end_of move.side w) (end_reading_of move.side r) (other_of move.side r) r.lines (link_to move.side w) h.ends.parts (λ packet first opened. coming-due move.side w r packet h.reached h.nested opened (h.ends.arrives packet first opened)) once mine.0 in
       record {
         kept = ends-keep schema (ReadsExchanges schema) move.side move.event w r output h.nested h.ends p.0 mine.1;
-        passes = λ behind. ends-pass schema there_line move.side move.event w r output behind h.nested h.ends p.1;
+        passes = λ following. ends-pass schema there_line move.side move.event w r output following h.nested h.ends p.1;
       }

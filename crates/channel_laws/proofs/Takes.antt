@@ -26,7 +26,7 @@ use Rattle.nesting_core.specs.Deferral.{awaited_level, inner_transaction}
 use Rattle.nesting_core.specs.Top.{top_of}
 use Rattle.pending_queue.specs.declared.item.Item.{Item}
 use Rattle.pending_queue.specs.declared.item.Item.TheVariants as item
-use Rattle.pending_queue.specs.Holding.{arrival_of_body, is_free, without_first}
+use Rattle.pending_queue.specs.DeferralContext.{arrival_of_body, is_free, without_first}
 use Rattle.channel_model.specs.Ends.{End, Packet, StackEntry}
 use Rattle.channel_model.specs.Numbers.{is_sync_row, makes_promise}
 use Rattle.channel_model.specs.Outputs.{Output, Change, beginning, unchanged, on_end, line, answered, request_answered}
@@ -66,13 +66,13 @@ inner-at InsideCpow seq t below e = cc
 inner-is : (head : Head) (below : List StackFrame) → head.sync ≡ true → head.level ≡ InsideSync → inner_transaction (Wait head None ∷ below) ≡ Some head.transaction
 inner-is head below is e = ap (λ (x : Head). inner_transaction (Wait x None ∷ below)) (sym (is-sync_head head is)) ∙ inner-at head.level head.seq head.transaction below e
 
--- what a waiting end defers hangs on the wait alone
+-- what a waiting end defers depends on the wait alone
 pub deferral-same : (side : Side) (head : Head) (route : ℤ) (number : ℕ) (below : List StackFrame) (l : Level) (n : ℤ) → head.sync ≡ true → HasLevelOf side (call_of_head route number head)
     → defers_request side head.level (inner_transaction (Wait head None ∷ below)) true l n ≡ defers_request side head.level (Some head.transaction) true l n
 deferral-same Child head route number below l n is k = child-defers head.level l (inner_transaction (Wait head None ∷ below)) (Some head.transaction) n
 deferral-same Parent head route number below l n is k = ap (λ (t : Option ℤ). defers_request Parent head.level t true l n) (inner-is head below is k)
 
--- the same as a holding has it
+-- the same for the values of a `Holding`
 pub holding-same : (side : Side) (head : Head) (route : ℤ) (number : ℕ) (below : List StackFrame) (l : Level) (n : ℤ) → head.sync ≡ true → HasLevelOf side (call_of_head route number head)
     → defers_request side head.level (Some (unwrap_or (inner_transaction (Wait head None ∷ below)) (pos 0))) true l n ≡ defers_request side head.level (Some head.transaction) true l n
 holding-same Child head route number below l n is k = child-defers head.level l (Some (unwrap_or (inner_transaction (Wait head None ∷ below)) (pos 0))) (Some head.transaction) n
@@ -130,45 +130,45 @@ pub found-passes : {A : Type 0} (p : A → Bool) (xs : List A) (x : A) → find 
 found-passes p [] x e = cc
 found-passes p (y ∷ ys) x e = found-passes_at p y x (p y) (find p ys) refl e (λ k. found-passes p ys x k)
 
-between : {A : Type 0} {x : A} (before behind : List A) → IsInserted x (before ++ behind) (before ++ x ∷ behind)
-between [] behind = here
-between (y ∷ before) behind = there (between before behind)
+between : {A : Type 0} {x : A} (before following : List A) → IsInserted x (before ++ following) (before ++ x ∷ following)
+between [] following = here
+between (y ∷ before) following = there (between before following)
 
-module _ (schema : Schema) (rows : HasSoundRows schema) (e : End) (stack : List SyncFrame) (link : List Packet) (h : IsOpenEnd schema e stack) (m : Message) (sync : Bool) (level : Level) (next : find (is_free (takes.holding_of e)) e.arrived ≡ Some (item.Message m sync level)) (under : takes.takes_under (top_of (frames_of e)) ≡ true) where
+module _ (schema : Schema) (rows : HasSoundRows schema) (e : End) (stack : List SyncFrame) (link : List Packet) (h : IsOpenEnd schema e stack) (m : Message) (sync : Bool) (level : Level) (next : find (is_free (takes.deferral_context_of e)) e.arrived ≡ Some (item.Message m sync level)) (under : takes.takes_under (top_of (frames_of e)) ≡ true) where
   abbrev rest : List Item
-  rest = without_first (is_free (takes.holding_of e)) e.arrived
+  rest = without_first (is_free (takes.deferral_context_of e)) e.arrived
 
   abbrev left_track : Track
   left_track = record { side = e.side; stack = e.stack; arrived = rest; sent = [] }
 
   abbrev left : Output
-  left = on_end (λ e. record e { arrived = without_first (is_free (takes.holding_of e)) e.arrived }) (beginning e)
+  left = on_end (λ e. record e { arrived = without_first (is_free (takes.deferral_context_of e)) e.arrived }) (beginning e)
 
   at-left : IsOnTrack schema left_track left.end []
   at-left = at-start schema e left.end stack refl refl refl h
 
   rest-agree : AllByRecursion (ItemAgrees schema) rest
-  rest-agree = all-sublist (ItemAgrees schema) rest e.arrived (without_first-sublist (is_free (takes.holding_of e)) e.arrived) h.arrived
+  rest-agree = all-sublist (ItemAgrees schema) rest e.arrived (without_first-sublist (is_free (takes.deferral_context_of e)) e.arrived) h.arrived
 
   item-agree : ArrivedAgrees schema m sync level m.body
-  item-agree = all-found (ItemAgrees schema) (is_free (takes.holding_of e)) e.arrived (item.Message m sync level) h.arrived next
+  item-agree = all-found (ItemAgrees schema) (is_free (takes.deferral_context_of e)) e.arrived (item.Message m sync level) h.arrived next
 
-  out : TakenOut item_call (is_free (takes.holding_of e)) e.arrived (item.Message m sync level)
-  out = taken_out item_call (is_free (takes.holding_of e)) e.arrived (item.Message m sync level) next
+  out : TakenOut item_call (is_free (takes.deferral_context_of e)) e.arrived (item.Message m sync level)
+  out = taken_out item_call (is_free (takes.deferral_context_of e)) e.arrived (item.Message m sync level) next
 
   -- what is taken is no sync request
   rest-calls : body_call sync level m m.body ≡ [] → sync_calls rest ≡ sync_calls e.arrived
-  rest-calls silent = out.rest ∙ sym (out.whole ∙ ap (λ (qs : List Call). out.before ++ (qs ++ out.behind)) silent)
+  rest-calls silent = out.rest ∙ sym (out.whole ∙ ap (λ (qs : List Call). out.before ++ (qs ++ out.following)) silent)
 
   silent-same : (o : Output) → body_call sync level m m.body ≡ [] → IsOnTrack schema left_track o.end o.packets → SyncStep schema e stack link link o
   silent-same o silent a =
       no_step (at-open schema left_track o.end o.packets stack a h.shows h.entries rest-agree) (ap sync_calls a.arrived_is ∙ rest-calls silent) refl a.sent_is a.agree
 
-  -- it is one
+  -- the item is a sync request
   rest-inserted : (q : Call) → body_call sync level m m.body ≡ q ∷ [] → IsInserted q (sync_calls rest) (sync_calls e.arrived)
   rest-inserted q one =
       subst (λ (qs : List Call). IsInserted q qs (sync_calls e.arrived)) (sym out.rest)
-      (subst (λ (qs : List Call). IsInserted q (out.before ++ out.behind) qs) (sym (out.whole ∙ ap (λ (qs : List Call). out.before ++ (qs ++ out.behind)) one)) (between out.before out.behind))
+      (subst (λ (qs : List Call). IsInserted q (out.before ++ out.following) qs) (sym (out.whole ∙ ap (λ (qs : List Call). out.before ++ (qs ++ out.following)) one)) (between out.before out.following))
 
   -- replies
   keeps-settles : (seq : ℤ) (a : _) → KeepsTrack schema (takes.settles seq a)
@@ -194,7 +194,7 @@ module _ (schema : Schema) (rows : HasSoundRows schema) (e : End) (stack : List 
     free : IsTakenUnder e.side (frames_of e) sync level m.transaction
     free =
         subst (λ (b : Body). not (defers_arrival e.side (awaited_level (frames_of e)) (Some (unwrap_or (inner_transaction (frames_of e)) (pos 0))) (arrival_of_body sync level m.transaction b)) ≡ true) body_is
-        (found-passes (is_free (takes.holding_of e)) e.arrived (item.Message m sync level) next)
+        (found-passes (is_free (takes.deferral_context_of e)) e.arrived (item.Message m sync level) next)
 
     free-at : (b : Bool) → is_sync_row row ≡ b → IsTakenUnder e.side (frames_of e) b row.level m.transaction
     free-at b is =
@@ -213,7 +213,7 @@ module _ (schema : Schema) (rows : HasSoundRows schema) (e : End) (stack : List 
     entry-agree : EntryAgrees schema (takes.dispatch_of row m)
     entry-agree = record { row = row; found = agrees.found; is_sync = refl; resolves = promise-async (is_sync_row row) (is_some row.returns) }
 
-    -- the track behind a dispatch
+    -- the track after a dispatch
     abbrev handled_track : Track
     handled_track = record { side = e.side; stack = takes.dispatch_of row m ∷ e.stack; arrived = rest; sent = [] }
 
@@ -281,4 +281,4 @@ taken schema rows e stack link h (item.Message m sync level) is =
     body-taken schema rows e stack link h m sync level r.1 r.0 m.body refl
 taken schema rows e stack link h item.Broken is =
     let r = next-is (takes.takes_in_state e.state) (takes.takes_under (top_of (frames_of e))) (takes.first_free e) item.Broken is in
-    absurd (all-found (ItemAgrees schema) (is_free (takes.holding_of e)) e.arrived item.Broken h.arrived r.1)
+    absurd (all-found (ItemAgrees schema) (is_free (takes.deferral_context_of e)) e.arrived item.Broken h.arrived r.1)

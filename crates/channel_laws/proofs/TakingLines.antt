@@ -1,4 +1,5 @@
--- A test that all lines pass but those that take or drop what has arrived: the lines of a step pass it where those do.
+-- A test that all lines pass, except perhaps those that take or drop what has arrived: the lines of a step pass if
+-- those do.
 use Rattle.std.proofs.Common.{◌≡◌, ℕ, ◌+◌, ℤ, Bool, true, false, if◌then◌else◌, List, [], ◌∷◌, ◌++◌, map, Option, Some, None, refl}
 use Rattle.ipdl_base.specs.declared.kinds.Level.{Level}
 use Rattle.ipdl_base.specs.declared.kinds.Reason.TheVariants.{ActorDestroyed, ResolverDestroyed}
@@ -34,7 +35,7 @@ use Rattle.channel_laws.specs.Tested.{after_whats, EndLinesPass}
 use Rattle.channel_laws.proofs.EffectLines.{IsEffectLine, AreEffectLines, built, answers_ok, answers_fault, fails, resolved, rejected, fell, reply-effects, fail-effects, settle-effect, laters-effects}
 use Rattle.channel_laws.proofs.Testing.{tested-append, tested-free}
 
--- whether a line takes nothing out of what has arrived: it is no take, no drop and no take of a reply
+-- whether a line takes nothing from what has arrived: it is no take, no drop and no take of a reply
 abbrev pub takes_nothing : What → Bool
 takes_nothing (what.Take n route number vs) = false
 takes_nothing (what.Drop n route number id) = false
@@ -124,12 +125,12 @@ module _ (schema : Schema) (Test : EndReading → What → Type 0) (free : (own 
       (free own _ refl, effects-pass (place + 1) (ls ++ ms) _ (all-append IsEffectLine ls ms (reply-effects told (return.dispatch_answered entry) (return.return_answer schema e row entry vs)) (reply-effects lost (resolver_answered (answering.resolver_in entry)) (answer.Fault ResolverDestroyed))))
   first-pass {e} place own (Parts.resumes wait row on_top found) t = (free own _ (resume-takes_nothing wait.seq (received schema e.actors row wait.given)), tt)
 
-  -- the lines of an end's own step pass, where those of what it takes do
+  -- the lines of an end's own step pass, if those of what it takes do
   pub own-pass : {q : Phase} {e f : End} {ws : List What} {ps : List Packet} (place : ℕ) (own : EndReading) → OwnParts schema e ws ps f q → TakesPass schema Test e own → Pass place ws own
   own-pass place own (Parts.begun {ws} {vs} part rest ended) t =
       tested-append schema Test place ws vs own (first-pass place own part t) (λ at. effects-pass at vs (after_whats schema place ws own) (laters-effects rest))
 
-  -- and those of a delivery pass
+  -- the lines of a delivery pass
   pub delivery-pass : {packet : Packet} {q : Phase} {e f : End} {ws : List What} {ps : List Packet} (place : ℕ) (own : EndReading) → DeliveryPart schema packet e ws ps f q → Pass place ws own
   delivery-pass place own (Parts.gets_request m row vs body found none) = (free own _ refl, tt)
   delivery-pass place own (Parts.replaces m row vs old sync level replies body found is told) =

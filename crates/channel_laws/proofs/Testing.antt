@@ -44,27 +44,27 @@ pub tested-free : (schema : Schema) (test : EndReading → What → Type 0) (pla
 tested-free schema test place [] h a = tt
 tested-free schema test place (w ∷ ws) h a = (a.0 h, tested-free schema test (place + 1) ws (after_what schema place w h) a.1)
 
-pub pass-append : (schema : Schema) (test : Reading → Line → List Line → Bool) (r : Reading) (xs ys behind : List Line) → LinesPass schema test r xs (ys ++ behind) → LinesPass schema test (read_from schema r xs) ys behind → LinesPass schema test r (xs ++ ys) behind
-pass-append schema test r [] ys behind a b = b
-pass-append schema test r (x ∷ xs) ys behind a b = (ap (λ (l : List Line). test r x l) (append_assoc xs ys behind) ∙ a.0, pass-append schema test (after schema r x) xs ys behind a.1 b)
+pub pass-append : (schema : Schema) (test : Reading → Line → List Line → Bool) (r : Reading) (xs ys following : List Line) → LinesPass schema test r xs (ys ++ following) → LinesPass schema test (read_from schema r xs) ys following → LinesPass schema test r (xs ++ ys) following
+pass-append schema test r [] ys following a b = b
+pass-append schema test r (x ∷ xs) ys following a b = (ap (λ (l : List Line). test r x l) (append_assoc xs ys following) ∙ a.0, pass-append schema test (after schema r x) xs ys following a.1 b)
 
-pub pass-both : (schema : Schema) (first second : Reading → Line → List Line → Bool) (r : Reading) (xs behind : List Line) → LinesPass schema first r xs behind → LinesPass schema second r xs behind → LinesPass schema (λ r l b. first r l b && second r l b) r xs behind
-pass-both schema first second r [] behind a b = tt
-pass-both schema first second r (x ∷ xs) behind a b = (both (first r x (xs ++ behind)) (second r x (xs ++ behind)) a.0 b.0, pass-both schema first second (after schema r x) xs behind a.1 b.1)
+pub pass-both : (schema : Schema) (first second : Reading → Line → List Line → Bool) (r : Reading) (xs following : List Line) → LinesPass schema first r xs following → LinesPass schema second r xs following → LinesPass schema (λ r l b. first r l b && second r l b) r xs following
+pass-both schema first second r [] following a b = tt
+pass-both schema first second r (x ∷ xs) following a b = (both (first r x (xs ++ following)) (second r x (xs ++ following)) a.0 b.0, pass-both schema first second (after schema r x) xs following a.1 b.1)
   where
     both : (x y : Bool) → x ≡ true → y ≡ true → x && y ≡ true
     both true y e f = f
     both false y e f = cc
 
-pub pass-lines : (schema : Schema) (test : EndReading → EndReading → What → Bool) (side : Side) (ws : List What) (r : Reading) (behind : List Line) → EndLinesPass schema (λ h w. test h (other_of side r) w ≡ true) r.lines ws (end_reading_of side r) → LinesPass schema (test_at test) r (map (line_at side) ws) behind
-pass-lines schema test side [] r behind t = tt
-pass-lines schema test Parent (w ∷ ws) r behind t = (t.0, pass-lines schema test Parent ws (after_at schema Parent w r) behind t.1)
-pass-lines schema test Child (w ∷ ws) r behind t = (t.0, pass-lines schema test Child ws (after_at schema Child w r) behind t.1)
+pub pass-lines : (schema : Schema) (test : EndReading → EndReading → What → Bool) (side : Side) (ws : List What) (r : Reading) (following : List Line) → EndLinesPass schema (λ h w. test h (other_of side r) w ≡ true) r.lines ws (end_reading_of side r) → LinesPass schema (test_at test) r (map (line_at side) ws) following
+pass-lines schema test side [] r following t = tt
+pass-lines schema test Parent (w ∷ ws) r following t = (t.0, pass-lines schema test Parent ws (after_at schema Parent w r) following t.1)
+pass-lines schema test Child (w ∷ ws) r following t = (t.0, pass-lines schema test Child ws (after_at schema Child w r) following t.1)
 
--- Effects behind their events
+-- Effects after their events
 
 abbrev pub event_test : Reading → Line → List Line → Bool
-event_test r l behind = if is_effect l.what then is_of_event l.side r.last else true
+event_test r l following = if is_effect l.what then is_of_event l.side r.last else true
 
 pub same-side : (side : Side) → same_side side side ≡ true
 same-side Parent = refl
@@ -85,20 +85,20 @@ last-after schema r l = by l.side refl
     by Parent is = refl
     by Child is = refl
 
-pub pass-events : (schema : Schema) (r : Reading) (lines behind : List Line) → EffectsFollow r.last lines → LinesPass schema event_test r lines behind
-pass-events schema r [] behind f = tt
-pass-events schema r (l ∷ ls) behind f = (
+pub pass-events : (schema : Schema) (r : Reading) (lines following : List Line) → EffectsFollow r.last lines → LinesPass schema event_test r lines following
+pass-events schema r [] following f = tt
+pass-events schema r (l ∷ ls) following f = (
   event-here (is_effect l.what) r.last l.side f.0,
-  pass-events schema (after schema r l) ls behind (subst (λ (s : Option Side). EffectsFollow s ls) (sym (last-after schema r l ∙ last-is (is_effect l.what) r.last l.side f.0)) f.1),
+  pass-events schema (after schema r l) ls following (subst (λ (s : Option Side). EffectsFollow s ls) (sym (last-after schema r l ∙ last-is (is_effect l.what) r.last l.side f.0)) f.1),
 )
 
 -- From the opening
 
-pub each-passes : (schema : Schema) (test : Reading → Line → List Line → Bool) (before lines : List Line) → LinesPass schema test (read schema before) lines [] → each_line (λ before line behind. test (read schema before) line behind) before lines ≡ true
+pub each-passes : (schema : Schema) (test : Reading → Line → List Line → Bool) (before lines : List Line) → LinesPass schema test (read schema before) lines [] → each_line (λ before line following. test (read schema before) line following) before lines ≡ true
 each-passes schema test before [] p = refl
 each-passes schema test before (l ∷ ls) p =
-    let rest : each_line (λ before line behind. test (read schema before) line behind) (before ++ l ∷ []) ls ≡ true = each-passes schema test (before ++ l ∷ []) ls (subst (λ (r : Reading). LinesPass schema test r ls []) (sym (read-append schema before (l ∷ []) opening_reading)) p.1) in
-    both (test (read schema before) l ls) (each_line (λ before line behind. test (read schema before) line behind) (before ++ l ∷ []) ls) (ap (test (read schema before) l) (sym (append-nil ls)) ∙ p.0) rest
+    let rest : each_line (λ before line following. test (read schema before) line following) (before ++ l ∷ []) ls ≡ true = each-passes schema test (before ++ l ∷ []) ls (subst (λ (r : Reading). LinesPass schema test r ls []) (sym (read-append schema before (l ∷ []) opening_reading)) p.1) in
+    both (test (read schema before) l ls) (each_line (λ before line following. test (read schema before) line following) (before ++ l ∷ []) ls) (ap (test (read schema before) l) (sym (append-nil ls)) ∙ p.0) rest
   where
     both : (x y : Bool) → x ≡ true → y ≡ true → x && y ≡ true
     both true y e f = f

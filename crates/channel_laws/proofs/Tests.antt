@@ -1,4 +1,4 @@
--- What tests say of their parts.
+-- What tests imply for their parts.
 use Rattle.std.proofs.Common.{◌≡◌, Bool, true, false, not, refl}
 
 pub not-false : (b : Bool) → not b ≡ true → b ≡ false

@@ -28,7 +28,7 @@ use Rattle.nesting_laws.specs.Calls.{SyncPacket, reply, ReplyHead}
 abbrev pub frames_in : List StackEntry → List StackFrame
 frames_in entries = map (λ (entry : StackEntry). entry.frame) entries
 
--- What is followed of an open end, and what it has sent of sync requests.
+-- What is tracked of an open end, and the sync packets that it has sent.
 pub record Track : Type 0 where
   pub side : Side
   pub stack : List StackEntry
@@ -46,7 +46,7 @@ pub record IsOnTrack (schema : Schema) (w : Track) (e : End) (packets : List Pac
   pub outbox_is : sync_packets schema (map message e.outbox) ≡ []
   pub waiting : AllByRecursion (PacketAgrees schema) (map message e.outbox)
 
--- a part that changes nothing of it
+-- a part that does not change the track
 abbrev pub KeepsTrack : Schema → Change → Type 0
 KeepsTrack schema change = (w : Track) (o : Output) → IsOnTrack schema w o.end o.packets → IsOnTrack schema w (change o).end (change o).packets
 
@@ -57,7 +57,7 @@ pub keeps-when : (schema : Schema) (b : Bool) (change : Change) → KeepsTrack s
 keeps-when schema true change c w o h = c w o h
 keeps-when schema false change c w o h = h
 
--- an end that is as another but for its names and outbox, and for its actors, promises and counts
+-- an end that equals another except for its names and outbox, and for its actors, promises and counts
 pub at-changed : (schema : Schema) (w : Track) (e next : End) (packets : List Packet) → next.side ≡ e.side → next.state ≡ e.state → next.stack ≡ e.stack → next.arrived ≡ e.arrived → AllByRecursion (NamingAgrees schema) next.names → sync_packets schema (map message next.outbox) ≡ [] → AllByRecursion (PacketAgrees schema) (map message next.outbox) → IsOnTrack schema w e packets → IsOnTrack schema w next packets
 at-changed schema w e next packets a b c d named outbox waiting h = record {
   side_is = a ∙ h.side_is;
@@ -71,15 +71,15 @@ at-changed schema w e next packets a b c d named outbox waiting h = record {
   waiting = waiting;
 }
 
--- one that has the same names and outbox too
+-- an end that also has the same names and outbox
 pub at-like : (schema : Schema) (w : Track) (e next : End) (packets : List Packet) → next.side ≡ e.side → next.state ≡ e.state → next.stack ≡ e.stack → next.arrived ≡ e.arrived → next.names ≡ e.names → next.outbox ≡ e.outbox → IsOnTrack schema w e packets → IsOnTrack schema w next packets
 at-like schema w e next packets a b c d n o h =
     at-changed schema w e next packets a b c d (subst (AllByRecursion (NamingAgrees schema)) (sym n) h.named) (ap (λ (ms : List Message). sync_packets schema (map message ms)) o ∙ h.outbox_is)
     (subst (λ (ms : List Message). AllByRecursion (PacketAgrees schema) (map message ms)) (sym o) h.waiting) h
 
--- what is sent where a packet goes behind the outbox
-sent-behind : (schema : Schema) (packets outbox : List Packet) (packet : Packet) (sent : List SyncPacket) → sync_packets schema packets ≡ sent → sync_packets schema outbox ≡ [] → sync_packets schema (packets ++ outbox ++ packet ∷ []) ≡ sent ++ sync_packet schema packet
-sent-behind schema packets outbox packet sent e f =
+-- what is sent where a packet goes after the outbox
+sent-following : (schema : Schema) (packets outbox : List Packet) (packet : Packet) (sent : List SyncPacket) → sync_packets schema packets ≡ sent → sync_packets schema outbox ≡ [] → sync_packets schema (packets ++ outbox ++ packet ∷ []) ≡ sent ++ sync_packet schema packet
+sent-following schema packets outbox packet sent e f =
     flat_map-append (sync_packet schema) (packets ++ outbox) (packet ∷ [])
     ∙ (ap (λ (ps : List SyncPacket). ps ++ (sync_packet schema packet ++ [])) (flat_map-append (sync_packet schema) packets outbox)
     ∙ (ap (λ (ps : List SyncPacket). (sync_packets schema packets ++ ps) ++ (sync_packet schema packet ++ [])) f
@@ -93,7 +93,7 @@ at-put schema packet agrees w o h = record {
   state_is = h.state_is;
   stack_is = h.stack_is;
   arrived_is = h.arrived_is;
-  sent_is = sent-behind schema o.packets (map message o.end.outbox) packet w.sent h.sent_is h.outbox_is;
+  sent_is = sent-following schema o.packets (map message o.end.outbox) packet w.sent h.sent_is h.outbox_is;
   agree = all-append (PacketAgrees schema) (o.packets ++ map message o.end.outbox) (packet ∷ []) (all-append (PacketAgrees schema) o.packets (map message o.end.outbox) h.agree h.waiting) (agrees, tt);
   named = h.named;
   outbox_is = refl;

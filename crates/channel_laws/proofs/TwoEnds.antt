@@ -22,7 +22,8 @@ use Rattle.nesting_core.specs.declared.frame.Answer.{Answer}
 use Rattle.nesting_core.specs.declared.frame.Answer.TheVariants as answer
 use Rattle.nesting_core.specs.Answers.{awaited}
 use Rattle.channel_model.specs.Ends.{End, Packet, message, mark}
-use Rattle.channel_model.specs.Numbers.{other, is_sync_row}
+use Rattle.ipdl_base.specs.Sides.{other}
+use Rattle.channel_model.specs.Numbers.{is_sync_row}
 use Rattle.channel_model.specs.Outputs.{is_open}
 use Rattle.channel_model.specs.Sends.{frames_of}
 use Rattle.channel_model.specs.Steps.{first_packet}
@@ -45,9 +46,9 @@ use Rattle.channel_laws.proofs.Outlines.{RepliesFit, first-outlined, later-outli
 use Rattle.channel_laws.proofs.Origins.{first-origins, later-origins, delivery-origins}
 use Rattle.channel_laws.proofs.SentAccounts.{first-account, later-account, delivery-account}
 use Rattle.channel_laws.proofs.Delivered.{own-delivers-none, delivery-delivers}
-use Rattle.channel_laws.proofs.Growing.{whats-append, delivered-are, grows, in-before, in-behind, origins-grow, replies-grow, own-request}
+use Rattle.channel_laws.proofs.Growing.{whats-append, delivered-are, grows, in-before, in-following, origins-grow, replies-grow, own-request}
 
--- What one end keeps by itself: its outline is read, its things come from what the other end has sent, and what it has
+-- What one end keeps: its outline is read, all that it has belongs to what the other end has sent, and what it has
 -- sent is accounted for.
 pub record EndKeeps (schema : Schema) (theirs : List Note) (e : End) (h : EndReading) (left : List Note) : Type 0 where
   pub outlined : HasOutline e (outline h)
@@ -55,7 +56,7 @@ pub record EndKeeps (schema : Schema) (theirs : List Note) (e : End) (h : EndRea
   pub sent : EndAccount schema e h left
 
 module _ (schema : Schema) (rows : HasSoundRows schema) (theirs : List Note) where
-  -- an end keeps that, and sends replies to what the other end has sent alone
+  -- an end keeps that, and its replies are only to what the other end has sent
   abbrev pub KeepsOn : End → EndReading → List Note → List Packet → Type 0
   KeepsOn f h left ps = EndKeeps schema theirs f h (left ++ notes schema ps) × AllByRecursion (PacketReplies schema theirs) ps
 
@@ -74,12 +75,12 @@ module _ (schema : Schema) (rows : HasSoundRows schema) (theirs : List Note) whe
       let o = delivery-origins schema theirs part new k.origins in
       (record { outlined = delivery-outlined schema place h part is_open_end fit k.outlined; origins = o.0; sent = delivery-account schema rows theirs place h left part is_open_end k.origins k.sent }, o.1)
 
-  -- what two parts keep, the second behind the first
+  -- what two parts keep, the second after the first
   both-keep : (f g : End) (ws vs : List What) (ps qs : List Packet) (place : ℕ) (h : EndReading) (left : List Note) → KeepsOn f (after_whats schema place ws h) left ps
       → ((at : ℕ) → KeepsOn g (after_whats schema at vs (after_whats schema place ws h)) (left ++ notes schema ps) qs) → KeepsOn g (after_whats schema place (ws ++ vs) h) left (ps ++ qs)
-  both-keep f g ws vs ps qs place h left a behind =
+  both-keep f g ws vs ps qs place h left a following =
       let at = whats-append schema place ws vs h in
-      let b = behind at.0 in (
+      let b = following at.0 in (
         subst (λ (x : EndReading). EndKeeps schema theirs g x (left ++ notes schema (ps ++ qs))) (sym at.1)
             (subst (EndKeeps schema theirs g (after_whats schema at.0 vs (after_whats schema place ws h))) (append_assoc left (notes schema ps) (notes schema qs) ∙ ap (λ (l : List Note). left ++ l) (sym (map-append (packet_note schema) ps qs))) b.0),
         all-append (PacketReplies schema theirs) ps qs a.1 b.1,
@@ -112,7 +113,7 @@ pub first-is : (link : List Packet) (packet : Packet) → first_packet link ≡ 
 first-is [] packet e = cc
 first-is (p ∷ rest) packet e = ap (λ (x : Packet). x ∷ rest) (same_Some p packet e)
 
--- What is known of the first packet on the link toward an end, and of those behind it.
+-- What is known of the first packet on the link toward an end, and of those after it.
 pub record Arrival (schema : Schema) (mine theirs : End) (own others : EndReading) (to_me : List Packet) (packet : Packet) : Type 0 where
   pub link : to_me ≡ packet ∷ drop 1 to_me
   pub account : LinkAccount schema theirs others own (packet ∷ drop 1 to_me)
@@ -131,7 +132,7 @@ module _ (schema : Schema) (rows : HasSoundRows schema) where
   coming-origin theirs others own mine (message m) rest c r = by m.body refl r
     where
       there_is : (b : Body) → m.body ≡ b → In (body_note schema m b) (told_notes theirs.side others.sent)
-      there_is b is = subst (λ (x : Note). In x (told_notes theirs.side others.sent)) (ap (body_note schema m) is) (subst (λ (l : List Note). In (packet_note schema (message m)) l) (sym c.sent.whole) (in-before _ (in-behind c.got here)))
+      there_is b is = subst (λ (x : Note). In x (told_notes theirs.side others.sent)) (ap (body_note schema m) is) (subst (λ (l : List Note). In (packet_note schema (message m)) l) (sym c.sent.whole) (in-before _ (in-following c.got here)))
 
       reply-row : RepliesTo schema mine m → BodyOrigin schema (told_notes theirs.side others.sent) m (Fault HandlerRejected)
       reply-row h = (h.origin.row, ap (message_of schema) h.is ∙ (rows h.number h.origin.row h.origin.found).reply h.replied)
@@ -142,7 +143,7 @@ module _ (schema : Schema) (rows : HasSoundRows schema) where
       by (Fault x) is h = reply-row h
       by Goodbye is h = tt
 
-  -- a reply is sync as the own request is
+  -- a reply is sync exactly where the end's own request is
   answer-replies : (mine : List Note) (m : Message) (a : Answer) → m.body ≡ body_of a → BodyReplies schema mine m m.body → RepliesTo schema mine m
   answer-replies mine m (answer.Ok vs) is h = subst (BodyReplies schema mine m) is h
   answer-replies mine m (answer.Fault x) is h = subst (BodyReplies schema mine m) is h
@@ -157,7 +158,7 @@ module _ (schema : Schema) (rows : HasSoundRows schema) where
       let synced : reading.is_sync_number schema r.number ≡ is_sync_row r.origin.row = ap (λ (x : Option MessageRow). option_map_or is_sync_row x false) (request-message schema r.number r.origin.row r.origin.found) in
       ap (λ (x : Option told.Request). option_map_or (λ (y : told.Request). y.sync) x false) there ∙ (k.1.1.1 ∙ (ap (reading.is_sync_number schema) number ∙ (synced ∙ ap is_sync_row same_row)))
 
-  -- what comes has a row
+  -- a packet that comes has a row
   row-known : (theirs : List Note) (packet : Packet) → PacketOrigin schema theirs packet → (m : Message) → packet ≡ message m → is_farewell (farewell_item packet) ≡ false → message_of schema m.number ≡ None → ⊥
   row-known theirs (message k) origin m is ordinary none = by k.body ordinary origin
     where
@@ -182,14 +183,14 @@ module _ (schema : Schema) (rows : HasSoundRows schema) where
     known = row-known theirs packet origin;
   }
 
-  -- Both ends behind a step
+  -- Both ends after a step
 
-  owed-behind : (side : Side) (theirs : End) (own next : EndReading) (more : List SentPacket) → next.sent ≡ own.sent ++ more → HasOrigins schema (told_notes side own.sent) theirs → HasOrigins schema (told_notes side next.sent) theirs
-  owed-behind side theirs own next more is k =
+  owed-following : (side : Side) (theirs : End) (own next : EndReading) (more : List SentPacket) → next.sent ≡ own.sent ++ more → HasOrigins schema (told_notes side own.sent) theirs → HasOrigins schema (told_notes side next.sent) theirs
+  owed-following side theirs own next more is k =
       subst (λ (l : List Note). HasOrigins schema l theirs) (sym (ap (told_notes side) is ∙ map-append (told_note side) own.sent more)) (origins-grow schema (told_notes side own.sent) (told_notes side more) theirs k)
 
-  replies-behind : (side : Side) (ps : List Packet) (own next : EndReading) (more : List SentPacket) → next.sent ≡ own.sent ++ more → AllByRecursion (PacketReplies schema (told_notes side own.sent)) ps → AllByRecursion (PacketReplies schema (told_notes side next.sent)) ps
-  replies-behind side ps own next more is k =
+  replies-following : (side : Side) (ps : List Packet) (own next : EndReading) (more : List SentPacket) → next.sent ≡ own.sent ++ more → AllByRecursion (PacketReplies schema (told_notes side own.sent)) ps → AllByRecursion (PacketReplies schema (told_notes side next.sent)) ps
+  replies-following side ps own next more is k =
       subst (λ (l : List Note). AllByRecursion (PacketReplies schema l) ps) (sym (ap (told_notes side) is ∙ map-append (told_note side) own.sent more)) (replies-grow schema (told_notes side own.sent) (told_notes side more) ps k)
 
   -- both ends, where what comes to the end is known
@@ -205,14 +206,14 @@ module _ (schema : Schema) (rows : HasSoundRows schema) where
         outlined = k.outlined;
         their_outlined = pair.their_outlined;
         origins = k.origins;
-        their_origins = subst (λ (s : Side). HasOrigins schema (told_notes s after.sent) theirs) (sym side) (owed-behind mine.side theirs own after g.0 g.1 pair.their_origins);
+        their_origins = subst (λ (s : Side). HasOrigins schema (told_notes s after.sent) theirs) (sym side) (owed-following mine.side theirs own after g.0 g.1 pair.their_origins);
         comes = comes;
         goes = record {
           got = pair.goes.got;
           kinds = pair.goes.kinds;
           sent = subst (EndAccount schema next after) (append_assoc pair.goes.got (notes schema to_them) (notes schema sent) ∙ ap (λ (l : List Note). pair.goes.got ++ l) (sym (map-append (packet_note schema) to_them sent))) k.sent;
         };
-        replies = subst (λ (s : Side). AllByRecursion (PacketReplies schema (told_notes s after.sent)) rest) (sym side) (replies-behind mine.side rest own after g.0 g.1 replies);
+        replies = subst (λ (s : Side). AllByRecursion (PacketReplies schema (told_notes s after.sent)) rest) (sym side) (replies-following mine.side rest own after g.0 g.1 replies);
         their_replies = all-append (PacketReplies schema (told_notes theirs.side others.sent)) to_them sent pair.their_replies new;
       }
 

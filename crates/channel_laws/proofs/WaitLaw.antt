@@ -11,7 +11,7 @@ use Rattle.history_reading.specs.EndReading.{has_unanswered}
 use Rattle.history_reading.specs.Holds.{moment_test}
 use Rattle.history_reading.specs.Reading.{Reading, opening_reading, read}
 use Rattle.history_reading.specs.Still as lines
-use Rattle.history_reading.specs.Waits.{waits_line, waits_moment, some_waits_behind_end, some_waits, waits_while_still}
+use Rattle.history_reading.specs.Waits.{waits_line, waits_moment, some_waits_after_end, some_waits, waits_while_still}
 use Rattle.channel_model.specs.Ends.{World, end_of, opening}
 use Rattle.channel_model.specs.Runs.{run, history_of, is_still, is_still_at}
 use Rattle.channel_model.specs.Sends.{frames_of}
@@ -25,7 +25,7 @@ use Rattle.channel_laws.specs.WaitLaws.{HistoriesObeyWaits}
 use Rattle.channel_laws.proofs.EndsTold.{told-at}
 use Rattle.channel_laws.proofs.EveryRun.{from-side, nesting_in_every_run}
 use Rattle.channel_laws.proofs.Exchanges.{opening-exchanges}
-use Rattle.channel_laws.proofs.Holding.{holds-in-runs}
+use Rattle.channel_laws.proofs.DeferralContext.{holds-in-runs}
 use Rattle.channel_laws.proofs.Moves.{flip}
 use Rattle.channel_laws.proofs.Outlines.{open-is}
 use Rattle.channel_laws.proofs.PrefixRuns.{noted-at}
@@ -37,7 +37,7 @@ use Rattle.channel_laws.proofs.StillReads.{StillEnd, still-end}
 use Rattle.channel_laws.proofs.StillWorlds.{still_ends_wait_for_nothing}
 use Rattle.channel_laws.proofs.Taken.{ReadExchanges, exchanges-keep}
 use Rattle.channel_laws.proofs.Testing.{pass-both}
-use Rattle.channel_laws.proofs.WaitMoments.{parent-heads, child-heads, none-block, none-behind_end, waits-none}
+use Rattle.channel_laws.proofs.WaitMoments.{parent-heads, child-heads, none-block, none-after_end, waits-none}
 use Rattle.channel_laws.proofs.WaitRuns.{AnswersKept, waits-keep}
 
 and-both : (a b : Bool) → a && b ≡ true → (a ≡ true) × (b ≡ true)
@@ -62,7 +62,7 @@ module _ (schema : Schema) (sound : IsSound schema) where
       reached-has schema (AtEnds schema (ReadsExchanges schema)) (λ top moves. (every-run schema sound (ReadExchanges schema sound) (test_at there_line) (exchanges-keep schema sound) top moves (opening-exchanges schema top Parent, opening-exchanges schema top Child)).kept) w r h
 
   module _ (w : World) (r : Reading) (reached : IsReached schema w r) (nested : IsNestedWorld schema w) (reads : ReadingIs schema w r) where
-    -- where the lines are still, the world is
+    -- if the lines are still, the world is
     world-still : lines.is_still schema r ≡ true → is_still schema w ≡ true
     world-still e =
         let both = and-both (lines.is_still_at schema Parent r.parent r.child) (lines.is_still_at schema Child r.child r.parent) e in
@@ -100,8 +100,8 @@ module _ (schema : Schema) (sound : IsSound schema) where
 
     moment-waits : waits_moment schema r ≡ true
     moment-waits =
-        ap (λ (b : Bool). if b then false else (if some_waits_behind_end r then false else not (waits_while_still schema r))) (none-block schema sound w r reached nested reads)
-        ∙ (ap (λ (b : Bool). if b then false else not (waits_while_still schema r)) (none-behind_end schema sound w r reached nested reads) ∙ ap not none-waits-still)
+        ap (λ (b : Bool). if b then false else (if some_waits_after_end r then false else not (waits_while_still schema r))) (none-block schema sound w r reached nested reads)
+        ∙ (ap (λ (b : Bool). if b then false else not (waits_while_still schema r)) (none-after_end schema sound w r reached nested reads) ∙ ap not none-waits-still)
 
     moment-is : moment_test law.Waits schema r ≡ true
     unfolding moment_test
@@ -116,8 +116,8 @@ module _ (schema : Schema) (sound : IsSound schema) where
       let keeps : MoveKeeps schema (AnswersKept schema sound) (test_at (waits_line schema)) move w r output = waits-keep schema sound move w r output m k in
       record {
         kept = keeps.kept;
-        passes = λ behind. pass-both schema (moment_at (moment_test law.Waits schema)) (test_at (waits_line schema)) r output.lines behind
-            (moments-pass schema (moment_test law.Waits schema) move w r output behind m.step (moment-is w r m.reached m.nested m.reads)) (keeps.passes behind);
+        passes = λ following. pass-both schema (moment_at (moment_test law.Waits schema)) (test_at (waits_line schema)) r output.lines following
+            (moments-pass schema (moment_test law.Waits schema) move w r output following m.step (moment-is w r m.reached m.nested m.reads)) (keeps.passes following);
       }
 
 pub histories_obey_waits : HistoriesObeyWaits

@@ -129,7 +129,7 @@ module _ (schema : Schema) (others : EndReading) where
   farewell-ends place (message m) h = refl
   farewell-ends place mark h = refl
 
-  -- waits fail innermost first: those above have their answers
+  -- waits fail innermost first: the waits above have their answers
   abbrev seqs_of : List StackEntry → List ℤ
   seqs_of es = map (λ (f : StackFrame). (head_of f).seq) (filter is_unanswered (map (λ (x : StackEntry). x.frame) es))
 
@@ -184,7 +184,7 @@ module _ (schema : Schema) (others : EndReading) where
 
   -- Lines of the parts of steps
 
-  -- The line of a call that goes on passes: its answer was given.
+  -- The line of a call that continues passes: its answer was given.
   abbrev pub ResumesPass : End → EndReading → Type 0
   ResumesPass e h = (wait : return.AnsweredWait) (row : MessageRow) → return.answered_wait_on_top e.stack ≡ Some wait → request_row schema wait.number ≡ Some row → InOrder h (return.resume_line wait.seq (received schema e.actors row wait.given))
 

@@ -1,4 +1,4 @@
--- At every moment of a run two waits do not block each other, and nobody waits behind the end of the other end.
+-- At every moment of a run two waits do not block each other, and no call waits after the other end's last packet.
 use Rattle.std.proofs.Common.{◌≡◌, ℕ, ℤ, Bool, true, false, ◌&&◌, ◌||◌, List, [], ◌∷◌, cond, find, map, Option, Some, None, option_map, refl, sym, ap, subst, ◌∙◌}
 use Rattle.std.specs.List.{AllByRecursion}
 use Rattle.ipdl_base.specs.declared.kinds.Level.{Level}
@@ -20,7 +20,7 @@ use Rattle.history_reading.specs.EndReading as end_reading
 use Rattle.history_reading.specs.EndReading.{EndReading, has_unanswered, frame_seq}
 use Rattle.history_reading.specs.Reading.{Reading}
 use Rattle.history_reading.specs.Still as lines
-use Rattle.history_reading.specs.Waits.{blocks, block_each_other, is_end_event, waits_behind_end, some_waits_behind_end}
+use Rattle.history_reading.specs.Waits.{blocks, block_each_other, is_end_event, waits_after_end, some_waits_after_end}
 use Rattle.ipdl_base.specs.declared.message.Message.{Message}
 use Rattle.channel_model.specs.Ends.{End, World, Packet}
 use Rattle.channel_model.specs.Outputs.{is_open}
@@ -40,7 +40,7 @@ use Rattle.channel_laws.proofs.HeadParts.{KeepsHeads, heads-reached}
 use Rattle.channel_laws.proofs.Runs.{IsReached, AtEnds, AcrossEnds}
 use Rattle.channel_laws.proofs.WaitLines.{awaited-alike}
 
--- Nobody waits
+-- No call waits
 
 none-awaited : (hs : List CallFrame) → end_reading.awaited hs ≡ None → has_unanswered hs ≡ false
 none-awaited [] e = refl
@@ -65,8 +65,8 @@ over-waits schema side mine theirs to_me to_them (mine_open a gone l n) closed =
 over-waits schema side mine theirs to_me to_them (theirs_open a gone l n) closed = gone.ended.nobody
 over-waits schema side mine theirs to_me to_them (both_over a b) closed = a.nobody
 
-behind-end : (own : EndReading) (e : End) → map placeless own.stack ≡ map shown_entry e.stack → EventTells e own → (is_open e.state ≡ false → AllByRecursion IsAnswered (frames_of e)) → waits_behind_end own ≡ false
-behind-end own e k tells nobody = by (is_end_event own.event) refl
+following-end : (own : EndReading) (e : End) → map placeless own.stack ≡ map shown_entry e.stack → EventTells e own → (is_open e.state ≡ false → AllByRecursion IsAnswered (frames_of e)) → waits_after_end own ≡ false
+following-end own e k tells nobody = by (is_end_event own.event) refl
   where
     by : (b : Bool) → is_end_event own.event ≡ b → b && has_unanswered own.stack ≡ false
     by true is = waits-none own e k (none-unanswered (frames_of e) (nobody (tells is)))
@@ -74,7 +74,7 @@ behind-end own e k tells nobody = by (is_end_event own.event) refl
 
 -- Two waits
 
--- deferral at an end, by its lines and by itself
+-- deferral at an end, by its lines and by its state
 pub deferral-same : (schema : Schema) (side : Side) (their_side : Side) (open_end : Bool) (outbox : List Message) (count : ℕ) (left : List Note) (own others : EndReading) (e : End) (head : Head) → SentAccount schema their_side open_end outbox count others.sent left → map placeless own.stack ≡ map shown_entry e.stack → AllByRecursion (EntryHead schema (told_notes their_side others.sent)) e.stack
     → lines.defers_request_head (lines.deferral_of schema side own others) (Some head) ≡ deferral.defers side (frames_of e) head
 deferral-same schema side their_side open_end outbox count left own others e head account k h =
@@ -103,7 +103,7 @@ module _ (schema : Schema) (sound : IsSound schema) (w : World) (r : Reading) (r
   ends : TwoEnds schema w.parent w.child r.parent r.child w.to_parent w.to_child
   ends = reads.ends
 
-  -- the heads at each end, with what the lines of the other say, by the side that it keeps
+  -- the heads at each end, with the lines of the other end, by the side that it keeps
   pub parent-heads : HasHeads schema (told_notes w.child.side r.child.sent) w.parent
   parent-heads = subst (λ (s : Side). HasHeads schema (told_notes s r.child.sent) w.parent) (sym nested.child) heads.0
 
@@ -138,9 +138,9 @@ module _ (schema : Schema) (sound : IsSound schema) (w : World) (r : Reading) (r
           let c : Blocks Child w.child w.parent = child-blocks y in
           absurd (give-way c.head p.head c.on_top p.on_top p.deferred c.deferred)
 
-  pub none-behind_end : some_waits_behind_end r ≡ false
-  none-behind_end =
+  pub none-after_end : some_waits_after_end r ≡ false
+  none-after_end =
       let t : AtEnds schema EventTells w r = tells-reached schema sound w r reached in
-      let a : waits_behind_end r.parent ≡ false = behind-end r.parent w.parent ends.outlined.stack t.0 (λ closed. over-waits schema Parent w.parent w.child w.to_parent w.to_child (from-side schema Parent w nested) closed) in
-      let b : waits_behind_end r.child ≡ false = behind-end r.child w.child ends.their_outlined.stack t.1 (λ closed. over-waits schema Child w.child w.parent w.to_child w.to_parent (from-side schema Child w nested) closed) in
-      ap (λ (x : Bool). x || waits_behind_end r.child) a ∙ b
+      let a : waits_after_end r.parent ≡ false = following-end r.parent w.parent ends.outlined.stack t.0 (λ closed. over-waits schema Parent w.parent w.child w.to_parent w.to_child (from-side schema Parent w nested) closed) in
+      let b : waits_after_end r.child ≡ false = following-end r.child w.child ends.their_outlined.stack t.1 (λ closed. over-waits schema Child w.child w.parent w.to_child w.to_parent (from-side schema Child w nested) closed) in
+      ap (λ (x : Bool). x || waits_after_end r.child) a ∙ b

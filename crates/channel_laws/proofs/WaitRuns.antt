@@ -1,4 +1,4 @@
--- In every run waits end in order and by what was said.
+-- In every run waits end in order and with what was sent.
 use Rattle.std.proofs.Common.{◌≡◌, ℤ, List, ◌++◌, sym, subst, ◌∙◌}
 use Rattle.ipdl_base.specs.declared.kinds.Side.{Side}
 use Rattle.ipdl_base.specs.declared.schema.Schema.{Schema}
@@ -9,7 +9,7 @@ use Rattle.history_reading.specs.EndReading.{EndReading}
 use Rattle.history_reading.specs.Reading.{Reading, end_reading_of, other_of}
 use Rattle.history_reading.specs.Waits.{waits_line}
 use Rattle.channel_model.specs.Ends.{End, World, end_of, link_to}
-use Rattle.channel_model.specs.Numbers.{other}
+use Rattle.ipdl_base.specs.Sides.{other}
 use Rattle.channel_model.specs.Outputs.{is_open}
 use Rattle.channel_model.specs.ValueActors.{actors_in_parts}
 use Rattle.channel_laws.specs.GivenAnswers.{HasAnswers, KeepsAnswers}
@@ -26,7 +26,7 @@ use Rattle.channel_laws.proofs.Resumes.{AnswersAreAlike, resumes-pass}
 use Rattle.channel_laws.proofs.Runs.{EveryMoveKeeps, AcrossEnds, across-ends, across-keep, at-ends, ends-pass}
 use Rattle.channel_laws.proofs.WaitLines.{move-waits}
 
--- who lives in the answer of the wait on top is read alike
+-- the actors that live in the answer of the wait on top are read alike
 answers-alike : (schema : Schema) (made : Protocols) (e : End) (own : EndReading) → HasProtocols schema made e → ReadsActors schema e own → AnswersAreAlike schema e own
 answers-alike schema made e own p k wait row vs on_top found given =
     let has : AnswerHasProtocols schema made wait.number (answer.Ok vs) = subst (AnswerHasProtocols schema made wait.number) given (top-protocols schema made e.stack wait on_top p.entries) in
@@ -51,13 +51,13 @@ module _ (schema : Schema) (sound : IsSound schema) where
       let their_side : theirs.side ≡ other side = end-side schema (other side) w m.nested in
       let my_side : mine.side ≡ other (other side) = end-side schema side w m.nested ∙ sym (other-other side) in
       let before : HasAnswers (told_notes theirs.side others.sent) (told_notes mine.side own.sent) own.failed mine = sides-are schema others own own.failed mine (other side) (other (other side)) theirs.side mine.side (sym their_side) (sym my_side) both.0 in
-      let behind = move-answers schema mine.side r.lines mine theirs own others (link_to side w) (link_to (other side) w) move.event output m.ends before in
+      let following = move-answers schema mine.side r.lines mine theirs own others (link_to side w) (link_to (other side) w) move.event output m.ends before in
       let next : EndReading = after_whats schema r.lines m.ends.whats own in
       let p : WorldHasProtocols schema m.reached.top w = protocols-reached schema sound w r m.reached in
       let actors = at-ends schema (ReadsActors schema) side w r (actors-reached schema sound w r m.reached) in
       record {
         kept = across-keep schema KeepsAnswers side move.event w r output m.nested m.ends
-            (sides-are schema others next next.failed output.end theirs.side mine.side (other side) (other (other side)) their_side my_side behind)
+            (sides-are schema others next next.failed output.end theirs.side mine.side (other side) (other (other side)) their_side my_side following)
             (other-answers schema side r.lines m.ends.whats own others (told_notes (other side) others.sent) theirs both.1);
         passes = λ rest. ends-pass schema (waits_line schema) side move.event w r output rest m.nested m.ends
             (move-waits schema r.lines mine theirs own others (link_to side w) (link_to (other side) w) move.event output m.ends

@@ -88,7 +88,7 @@ obeys_settled = histories_obey_settled calling calling_is_sound 0 moves
 obeys_fallen : Holds law.Fallen calling lines
 obeys_fallen = histories_obey_fallen calling calling_is_sound 0 moves
 
--- The parent's call goes on: the text of that line finds the message of the call by its number.
+-- The parent's call continues: the text of that line finds the message of the call by its number.
 
 noted_is : message_of_number side.Parent (take 8 lines) (pos 1) ≡ Some tell
 noted_is = refl
@@ -107,7 +107,7 @@ reading_is = reading_is_world calling calling_is_sound 0 moves
 is_bounded : IsBoundedRun side.Parent (run calling moves (opening 0))
 is_bounded = histories_are_bounded calling calling_is_sound 0 moves side.Parent
 
--- Behind the parent's call its request comes to the child, which accepts it.
+-- After the parent's call its request comes to the child, which accepts it.
 
 one_comes : length (link_to side.Child (world_of calling 0 (take 1 moves))) ≡ 1
 one_comes = refl

@@ -1,4 +1,5 @@
--- The schema of worked runs, and that it is sound: calls of one protocol, either way, and one of the highest level.
+-- The schema of worked runs, and a proof that it is sound: calls of one protocol, in both directions, and one of the
+-- highest level.
 use Rattle.std.proofs.Common.{◌≡◌, ◌≢◌, ℕ, zero, suc, inl, inr, ◌+◌, ◌*◌, true, false, Some, None, List, [], ◌∷◌, codes, refl, subst, arith}
 use Rattle.std.specs.List.{slice_get, AllPairs}
 use Rattle.std.proofs.lemmas.Option.{same_Some}

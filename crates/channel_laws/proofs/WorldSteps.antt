@@ -9,14 +9,14 @@ use Rattle.ipdl_base.specs.declared.schema.Schema.{Schema}
 use Rattle.channel_model.specs.Ends.{End, World, Packet, opening}
 use Rattle.channel_model.specs.Events.{Event, Move}
 use Rattle.channel_model.specs.Events as event
-use Rattle.channel_model.specs.Numbers.{other}
+use Rattle.ipdl_base.specs.Sides.{other}
 use Rattle.channel_model.specs.Outputs.{Output, is_open}
 use Rattle.channel_model.specs.Runs.{after_event, output_of, passed_by, happens, run, world_after}
 use Rattle.channel_model.specs.Steps.{step}
 use Rattle.channel_model.proofs.Events.{events_have_their_lines}
 use Rattle.channel_model.proofs.Known.{all-append}
 use Rattle.channel_laws.proofs.EndedSteps.{StaysOver, ended_step}
-use Rattle.channel_laws.proofs.LastPackets.{link-goes_on, ends-behind, ends-left}
+use Rattle.channel_laws.proofs.LastPackets.{link-goes_on, ends-following, ends-left}
 use Rattle.channel_laws.proofs.OpenSteps.{ReplyIsForTop, open_step}
 use Rattle.channel_laws.proofs.SyncSteps.{SyncStep, no_step, one_step, ends, drains}
 use Rattle.channel_laws.specs.NestedWorlds.{AreNestedFrom, sync_end_of, IsGone, EndsAreNested, both_open, mine_open, theirs_open, both_over, IsNestedWorld, EndsInLastPacket}
@@ -58,7 +58,7 @@ theirs-go_on : (side : Side) (mine : SyncEnd) (stack : List SyncFrame) (others :
 theirs-go_on Parent mine stack others link n = links_tell_of_ends.to_child stack others link mine n
 theirs-go_on Child mine stack others link n = links_tell_of_ends.to_parent stack others link mine n
 
--- what an event leaves of a link that ends
+-- what an event leaves on a link that ends in a last packet
 after-ends : (schema : Schema) (happening : Event) (link : List Packet) → (after_event happening link ≡ [] → ⊥) → EndsInLastPacket link → EndsInLastPacket (after_event happening link)
 after-ends schema event.deliver link h e = ends-left link h e
 after-ends schema (event.send route number vs name) link h e = e
@@ -75,7 +75,7 @@ after-ends schema event.flush link h e = e
 -- A move at one side
 
 module _ (schema : Schema) (rows : HasSoundRows schema) (side : Side) (mine theirs : End) (to_me to_them : List Packet) (is_side : mine.side ≡ side) (agree : AllByRecursion (PacketAgrees schema) to_me) (happening : Event) (output : Output) (is : step schema mine to_me happening ≡ Some output) where
-  -- what is on the link away
+  -- the packets on the link away from the end
   link-more : (sent : List SyncPacket) → sync_packets schema output.packets ≡ sent → sync_packets schema (to_them ++ output.packets) ≡ sync_packets schema to_them ++ sent
   link-more sent e = flat_map-append (sync_packet schema) to_them output.packets ∙ ap (λ (ps : List SyncPacket). sync_packets schema to_them ++ ps) e
 
@@ -104,8 +104,8 @@ module _ (schema : Schema) (rows : HasSoundRows schema) (side : Side) (mine thei
       (nested_step side (sync_end_of schema mine to_me stack) (sync_end_of schema theirs to_them under) (sync_end_of schema output.end (after_event happening to_me) new) (sync_packets schema output.packets) n
       (subst (λ (x : Side). Step x (sync_end_of schema mine to_me stack) (sync_end_of schema output.end (after_event happening to_me) new) (sync_packets schema output.packets)) is_side s)))
   both-then stack under t n (ends over told nobody last sent f) =
-      theirs_open t (record { ended = record { over = over; nobody = nobody }; told = told }) (ends-behind to_them output.packets (link-goes_on schema to_them (theirs-go_on side (sync_end_of schema mine to_me stack) under (sync_calls theirs.arrived) (sync_packets schema to_them) n)) last) (subst (IsAlone (other side)) (theirs-more under (farewell ∷ []) sent) (nested_ends side (sync_end_of schema mine to_me stack) (sync_end_of schema theirs to_them under) n))
-  both-then stack under t n (drains {behind} d nobody nothing link) =
+      theirs_open t (record { ended = record { over = over; nobody = nobody }; told = told }) (ends-following to_them output.packets (link-goes_on schema to_them (theirs-go_on side (sync_end_of schema mine to_me stack) under (sync_calls theirs.arrived) (sync_packets schema to_them) n)) last) (subst (IsAlone (other side)) (theirs-more under (farewell ∷ []) sent) (nested_ends side (sync_end_of schema mine to_me stack) (sync_end_of schema theirs to_them under) n))
+  both-then stack under t n (drains {following} d nobody nothing link) =
       let gone_on = subst (AllByRecursion IsNoFarewell) link (nested-goes_on side stack (sync_calls mine.arrived) (sync_packets schema to_me) (sync_end_of schema theirs to_them under) n) in
       absurd gone_on.0
 

@@ -1,4 +1,4 @@
--- The law of falls: at each end alone, whatever it is sent, and of every legal history.
+-- The law of falls, at one end whatever it receives, and of every legal history.
 use Rattle.std.specs.Prelude.{◌≡◌, ℕ, true, List, ◌∷◌, map, Some, None}
 use Rattle.ipdl_base.specs.declared.kinds.Side.{Side}
 use Rattle.ipdl_base.specs.declared.line.What.{What}
@@ -19,20 +19,21 @@ use Rattle.channel_model.specs.Steps.{step}
 use Rattle.channel_laws.specs.EndActors.{HasNextId, IsFallenLine, ReadsActors}
 use Rattle.channel_laws.specs.Tested.{after_whats, EndLinesPass}
 
--- what is delivered, if anything, has the next id of the other side where it is a constructor
+-- a constructor that is delivered has the next id of the other side
 abbrev pub DeliversNextId : Schema → End → List Packet → Event → Type 0
 DeliversNextId schema e (packet ∷ rest) event.deliver = HasNextId schema e packet
 DeliversNextId schema e _ _ = Unit {0}
 
--- The lines of a step are as the law of falls demands, and the end reads its actors from them.
+-- The lines of a step obey the law of falls, and the end reads its actors from them.
 pub record StepObeysFallen (schema : Schema) (place : ℕ) (own : EndReading) (e : End) (output : Output) : Type 0 where
   pub whats : List What
   pub lines : output.lines ≡ map (line_at e.side) whats
   pub pass : EndLinesPass schema IsFallenLine place whats own
   pub reads : ReadsActors schema output.end (after_whats schema place whats own)
 
--- Each end alone obeys the law of falls, whatever it is sent: at its beginning it reads its actors, each step keeps that
--- with lines that pass, and each moment passes. All that is asked of a packet is what is refused otherwise.
+-- Each end obeys the law of falls, whatever it receives: at the beginning it reads its actors from its lines, each
+-- step keeps that and prints lines that pass, and each moment passes. The only condition on a packet is one whose
+-- violation an end refuses (`DeliversNextId`).
 pub record EndsObeyFallen : Type 0 where
   pub opening : (schema : Schema) (protocol : ℕ) (side : Side) → ReadsActors schema (opening_end protocol side) end_reading.opening
   pub step : (schema : Schema) → IsSound schema → (e : End) (link : List Packet) (event : Event) (output : Output) (place : ℕ) (own : EndReading) → step schema e link event ≡ Some output → DeliversNextId schema e link event → ReadsActors schema e own → StepObeysFallen schema place own e output

@@ -1,4 +1,4 @@
--- What has arrived at an end, as its lines tell it: each request once, each reply once for each that was delivered.
+-- What has arrived at an end, by its lines: each request once, and each reply once for each that was delivered.
 use Rattle.std.specs.Prelude.{◌≡◌, ℕ, ◌+◌, ◌≤◌, ℤ, Bool, false, List, map, Some}
 use Rattle.std.specs.List.{AllByRecursion}
 use Rattle.ipdl_base.specs.declared.kinds.Side.{Side}
@@ -11,7 +11,8 @@ use Rattle.ipdl_base.specs.Sound.{message_of}
 use Rattle.pending_queue.specs.declared.item.Item.{Item}
 use Rattle.pending_queue.specs.declared.item.Item.TheVariants as item
 use Rattle.channel_model.specs.Ends.{End, Packet, message, mark}
-use Rattle.channel_model.specs.Numbers.{other, is_sync_row}
+use Rattle.ipdl_base.specs.Sides.{other}
+use Rattle.channel_model.specs.Numbers.{is_sync_row}
 use Rattle.channel_model.specs.Refusals.{expected_seq}
 use Rattle.history_reading.specs.declared.parts.PacketKind.{PacketKind}
 use Rattle.history_reading.specs.declared.parts.PacketKind.TheVariants as kind
@@ -19,7 +20,7 @@ use Rattle.history_reading.specs.EndReading.{EndReading, is_sync_request}
 use Rattle.channel_laws.specs.Delivered.{body_kind}
 use Rattle.channel_laws.specs.Counts.{how_many, is_number, is_packet, AreNumberedOnce}
 
--- what lines show of what has arrived
+-- what lines show of an item that has arrived
 abbrev pub item_kind : Item → PacketKind
 item_kind (item.Message m sync level) = body_kind m.seq m.body
 item_kind item.Broken = kind.Broken
@@ -35,21 +36,23 @@ pub record ArrivalReading : Type 0 where
 abbrev pub arrival_reading : EndReading → ArrivalReading
 arrival_reading own = record { delivered = own.delivered; arrived = own.arrived; gone = own.gone; replaced = own.replaced; replies = own.replies }
 
--- how many requests of a number have arrived, and are taken, dropped or replaced, and how many were delivered
+-- the number of times that the request of a number has arrived, or was taken, dropped or replaced, and the number of
+-- times that it was delivered
 abbrev pub requests_in : ArrivalReading → ℤ → ℕ
 requests_in a n = how_many (is_packet (kind.Request n)) a.arrived + (how_many (is_number n) a.gone + how_many (is_number n) a.replaced)
 
 abbrev pub requests_delivered : ArrivalReading → ℤ → ℕ
 requests_delivered a n = how_many (is_packet (kind.Request n)) a.delivered
 
--- how many replies to the request of a number have arrived, and are taken, and how many were delivered
+-- the number of replies to the request of a number that have arrived or were taken, and the number that were
+-- delivered
 abbrev pub replies_in : ArrivalReading → ℤ → ℕ
 replies_in a n = how_many (is_packet (kind.Reply n)) a.arrived + how_many (is_number n) a.replies
 
 abbrev pub replies_delivered : ArrivalReading → ℤ → ℕ
 replies_delivered a n = how_many (is_packet (kind.Reply n)) a.delivered
 
--- a reply that has arrived is to an async request
+-- an item is not the reply to a sync request
 
 abbrev pub IsAsyncReply : Bool → Body → Type 0
 IsAsyncReply sync (Request vs) = Unit {0}
@@ -61,8 +64,8 @@ abbrev pub IsNoSyncReply : Item → Type 0
 IsNoSyncReply (item.Message m sync level) = IsAsyncReply sync m.body
 IsNoSyncReply item.Broken = Unit {0}
 
--- What has arrived at a side is what the lines tell, each request and reply was delivered, and the requests that were
--- delivered are some of the first so many of the other side, none twice.
+-- The items that have arrived at a side are those that its lines show, and each request and reply was delivered. The
+-- requests that were delivered are among the first `count` of the other side, none twice.
 pub record HasArrivals (side : Side) (items : List Item) (count : ℕ) (a : ArrivalReading) : Type 0 where
   pub arrived : a.arrived ≡ map item_kind items
   pub async : AllByRecursion IsNoSyncReply items
@@ -73,8 +76,8 @@ pub record HasArrivals (side : Side) (items : List Item) (count : ℕ) (a : Arri
 abbrev pub ArrivalsAreRead : End → EndReading → Type 0
 ArrivalsAreRead e own = HasArrivals e.side e.arrived e.delivered (arrival_reading own)
 
--- What is delivered is due: its message is one of the schema; a request has the next number of the other side, and a
--- reply is to a request of this end that is sync just where the message is.
+-- What is delivered is due: its message is one of the schema; a request has the next number of the other side; a
+-- reply is to a request of this end that is sync exactly where the message is.
 
 abbrev pub IsDueBody : End → EndReading → Message → Bool → Body → Type 0
 IsDueBody e own m sync (Request vs) = m.seq ≡ expected_seq e

@@ -1,4 +1,5 @@
--- How many lines each end of a run prints, and how many packets it puts on its link, for its events.
+-- The number of lines that each end of a run prints, and of packets that it puts on its link, by the number of its
+-- events.
 use Rattle.std.specs.Prelude.{ℕ, ◌+◌, ◌*◌, ◌≤◌, not, ◌&&◌, cond, List, [], length}
 use Rattle.std.specs.List.{flat_map}
 use Rattle.ipdl_base.specs.declared.kinds.Side.{Side}
@@ -10,29 +11,29 @@ use Rattle.history_reading.specs.declared.parts.PacketKind.{PacketKind}
 use Rattle.channel_model.specs.Bounds.{unsettled}
 use Rattle.channel_model.specs.Ends.{World, end_of, link_to, opening}
 use Rattle.channel_model.specs.Events.{Move}
-use Rattle.channel_model.specs.Numbers.{other}
+use Rattle.ipdl_base.specs.Sides.{other}
 use Rattle.channel_model.specs.Runs.{RunState, run}
 use Rattle.channel_laws.specs.Counts.{how_many}
 use Rattle.channel_laws.specs.Delivered.{delivered_by}
 
--- how many lines are of a side
+-- the number of lines of a side
 abbrev pub lines_of : Side → List Line → ℕ
 lines_of side lines = how_many (λ line. same_side line.side side) lines
 
--- how many lines are events of a side
+-- the number of events of a side
 abbrev pub events_of : Side → List Line → ℕ
 events_of side lines = how_many (λ line. same_side line.side side && not (is_effect line.what)) lines
 
--- what lines say was delivered at a side
+-- what was delivered at a side, by the lines
 abbrev pub delivered_at : Side → List Line → List PacketKind
 delivered_at side lines = flat_map (λ line. cond (same_side line.side side) (delivered_by line.what) []) lines
 
--- how many packets an end has put where they wait: on the link to the other, and in its outbox
+-- the number of packets of an end that wait: on the link to the other end, and in its outbox
 abbrev pub waiting_of : Side → World → ℕ
 waiting_of side world = length (link_to (other side) world) + length (end_of side world).outbox
 
--- What a side's end has printed, and what it has still to settle, is at most five lines for each of its events, and one
--- more; and what was delivered of it, with what waits, at most two packets for each.
+-- The lines that a side has printed, with the things that it has yet to settle, are at most five for each of its
+-- events, and one more. The packets of it that were delivered, with those that wait, are at most two for each.
 pub record IsBoundedRun (side : Side) (run : RunState) : Type 0 where
   pub lines : lines_of side run.lines + unsettled (end_of side run.world) ≤ 5 * events_of side run.lines + 1
   pub packets : length (delivered_at (other side) run.lines) + waiting_of side run.world ≤ 2 * events_of side run.lines

@@ -1,4 +1,4 @@
--- What lines say of deliveries, and what packets and arrived items show.
+-- What lines show of deliveries, and what packets and arrived items show.
 use Rattle.std.specs.Prelude.{ℤ, List, [], ◌∷◌}
 use Rattle.std.specs.List.{flat_map}
 use Rattle.ipdl_base.specs.declared.line.What.{What}
@@ -20,7 +20,7 @@ abbrev pub delivered_kind : Packet → PacketKind
 delivered_kind (message m) = body_kind m.seq m.body
 delivered_kind mark = seen.Broken
 
--- what a line says was delivered
+-- what was delivered, by a line
 abbrev pub delivered_by : What → List PacketKind
 delivered_by (what.DeliverRequest n) = seen.Request n ∷ []
 delivered_by (what.DeliverReply n) = seen.Reply n ∷ []

@@ -1,4 +1,4 @@
--- What the lines of one end say of its actors: who was built, who has fallen, and why actors fall now.
+-- What the lines of one end show of its actors: which were built, which have fallen, and why actors fall now.
 use Rattle.std.specs.Prelude.{◌≡◌, ◌≢◌, ℤ, Bool, true, false, not, ◌⊎◌, List, [], ◌∷◌, filter, map, Option, Some, None}
 use Rattle.std.specs.List.{AllByRecursion}
 use Rattle.actor_tree.specs.declared.actor.Actor.{Actor}
@@ -30,7 +30,7 @@ use Rattle.channel_model.specs.States.{IsInState}
 use Rattle.channel_model.specs.Refusals.{expected_id}
 use Rattle.channel_model.specs.Phases.{EventStart, sends, takes, ends, closes, other, FallCause, nobody, deletion, closing, Phase}
 
--- a frame that is read, and one of an end, as the request that is handled there: none where it is a wait
+-- a frame that is read, and one of an end, as the request that is handled there: `None` for a wait
 abbrev pub handled_frame : CallFrame → Option HandledRequest
 handled_frame (frame.Dispatch d) = Some d
 handled_frame (frame.Unanswered c) = None
@@ -39,8 +39,8 @@ handled_frame (frame.Answered c) = None
 abbrev pub handled_entry : StackEntry → Option HandledRequest
 handled_entry entry = elim entry.frame [ Dispatch head ↦ Some (record { seq = head.seq; route = entry.route; number = entry.number }) | Wait head answer ↦ None ]
 
--- What is read of who was built and who has fallen, of who fell in the last event, of whether the end has closed, of the
--- last event and why actors fall in it, and of the requests on the stack.
+-- What is read: the actors that were built, those that have fallen, those that fell in the last event, whether the
+-- end has closed, the last event and why actors fall in it, and the requests on the stack.
 pub record ActorReading : Type 0 where
   pub built : List BuiltActor
   pub fallen : List ℤ
@@ -60,7 +60,7 @@ shown_actor a = record { id = a.id; manager = a.manager }
 abbrev pub is_standing : List ℤ → BuiltActor → Bool
 is_standing fallen a = not (has fallen a.id)
 
--- those who were built and have not fallen
+-- the actors that were built and have not fallen
 abbrev pub standing : List ℤ → List BuiltActor → List BuiltActor
 standing fallen built = filter (is_standing fallen) built
 
@@ -77,57 +77,59 @@ shown_cause nobody = read_cause.Nobody
 shown_cause (deletion id) = read_cause.Delete id
 shown_cause (closing why) = read_cause.Closing why
 
--- Who was built and has not fallen lives at the end, in the same order, and whoever has fallen was built.
+-- The actors that were built and have not fallen are those that live at the end, in the same order, and each actor
+-- that has fallen was built.
 pub record ShowsLiving (actors : List Actor) (built : List BuiltActor) (fallen : List ℤ) : Type 0 where
   pub living : standing fallen built ≡ map shown_actor actors
   pub fell : AllByRecursion (λ id. was_built built id ≡ true) fallen
 
--- The last event, why actors fall in it, and the requests that are handled are those of the end.
+-- The last event, why actors fall in it, and the requests that are handled are as the end has them.
 pub record ShowsEvent (p : Phase) (e : End) (read : ActorReading) : Type 0 where
   pub event : read.event ≡ shown_event p.start
   pub cause : read.cause ≡ shown_cause p.cause
   pub handled : read.handled ≡ map handled_entry e.stack
 
--- At an end that has closed nobody lives, but while it closes. Falls that are due have the cause of the event, and nobody
--- has fallen in it before.
+-- At an end that has closed no actor lives, except while it closes. Falls that are due have the cause of the event,
+-- and no actor has fallen in that event before.
 pub record FallsAreWhole (p : Phase) (e : End) (read : ActorReading) : Type 0 where
   pub over : read.over ≡ true → (is_closed e.state ≡ true) ⊎ (e.actors ≡ [])
   pub due : (p.due ≡ nobody) ⊎ ((p.due ≡ p.cause) × (read.falls ≡ []))
 
--- an actor that was built, as one of no protocol
+-- an actor that was built, with protocol 0 in the place of its own
 abbrev pub built_actor : BuiltActor → Actor
 built_actor a = record { id = a.id; protocol = 0; manager = a.manager }
 
--- which ids are taken at an end: those of all that were built, and of the constructors that have arrived
+-- which ids are taken at an end: those of all actors that were built, and of the constructors that have arrived
 abbrev pub built_ids : Schema → End → List BuiltActor → Ids
 built_ids schema e built = record { side = e.side; actors = map built_actor built; sent = e.constructors_sent; delivered = e.constructors_delivered; waiting = new_ids schema e.arrived }
 
--- at most one id is still to be built: it is taken, of nobody who was built, and of no constructor that waits
+-- at most one id is still to be built: it is taken, and belongs to no actor that was built and to no constructor that
+-- waits
 abbrev pub IsPending : Ids → List ℤ → Type 0
 IsPending ids [] = Unit {0}
 IsPending ids (id ∷ rest) = IsTaken ids id × (lives id ids.actors ≡ false) × AllByRecursion (λ waiting. waiting ≢ id) ids.waiting × (rest ≡ [])
 
--- The living actors are a tree; all that were built are one too, with ids that are taken, none twice; and so is the id
--- that is still to be built.
+-- The living actors are a tree. All actors that were built are a tree too, with ids that are taken, none twice. The
+-- id that is still to be built, if any, is taken and new.
 pub record HasIds (schema : Schema) (fresh : List ℤ) (e : End) (built : List BuiltActor) : Type 0 where
   pub tree : IsTree e.actors
   pub known : AreKnown 0 (built_ids schema e built)
   pub pending : IsPending (built_ids schema e built) fresh
 
--- What an end keeps of its actors with its own lines, behind a phase.
+-- What an end keeps of its actors with its own lines, after a phase.
 pub record KeepsActors (schema : Schema) (p : Phase) (e : End) (read : ActorReading) : Type 0 where
   pub living : ShowsLiving e.actors read.built read.fallen
   pub event : ShowsEvent p e read
   pub falls : FallsAreWhole p e read
   pub ids : HasIds schema p.fresh e read.built
 
--- A constructor that is delivered has the next id of the other side. An end that refuses what it does not expect sees to
--- this, whatever it is sent.
+-- A constructor that is delivered has the next id of the other side. An end that refuses unexpected packets ensures
+-- this, whatever it receives.
 abbrev pub HasNextId : Schema → End → Packet → Type 0
 HasNextId schema e mark = Unit {0}
 HasNextId schema e (message m) = (row : MessageRow) (vs : Values) → m.body ≡ Request vs → message_of schema m.number ≡ Some row → is_constructor row.kind ≡ true → m.made ≡ expected_id e
 
--- a line of an end is as the law of falls demands
+-- a line of an end obeys the law of falls
 abbrev pub IsFallenLine : EndReading → What → Type 0
 IsFallenLine own said = fallen_line own said ≡ true
 

@@ -7,8 +7,8 @@ use Rattle.channel_laws.specs.Arrivals.{ArrivalsAreRead}
 use Rattle.channel_laws.specs.OwnWaits.{WaitsAreOwn}
 use Rattle.channel_laws.specs.Promised.{PromisesAreRead}
 
--- What has arrived and what is promised are as the lines tell, each request is answered at most once, and each wait is
--- for a sync request of the end.
+-- What has arrived and what is promised are as the lines show, each request is answered at most once, and each wait
+-- is for a sync request of the end.
 pub record ReadsExchanges (schema : Schema) (e : End) (own : EndReading) : Type 0 where
   pub arrivals : ArrivalsAreRead e own
   pub promises : PromisesAreRead e own

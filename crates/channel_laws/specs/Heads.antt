@@ -16,7 +16,7 @@ use Rattle.channel_model.specs.Ends.{End, StackEntry}
 use Rattle.channel_model.specs.Numbers.{is_sync_row}
 use Rattle.channel_laws.specs.Notes.{Note, RequestNote, asks, In}
 
--- A message is sync and of a level as its row is.
+-- A message has the sync and level of its row.
 pub record IsOfRow (schema : Schema) (number : ℕ) (sync : Bool) (level : Level) : Type 0 where
   pub row : MessageRow
   pub found : message_of schema number ≡ Some row
@@ -31,7 +31,7 @@ pub record IsSentHead (sent : List Note) (seq : ℤ) (transaction : ℤ) (number
   pub transaction_is : request.transaction ≡ transaction
   pub number_is : request.number ≡ number
 
--- the head of a frame is that of its row, and that of a dispatch is of a request that was sent
+-- the head of a frame is as its row requires, and that of a dispatch is of a request that was sent
 abbrev pub FrameHead : Schema → List Note → ℕ → StackFrame → Type 0
 FrameHead schema sent number (Dispatch head) = IsOfRow schema number head.sync head.level × IsSentHead sent head.seq head.transaction number
 FrameHead schema sent number (Wait head a) = IsOfRow schema number head.sync head.level
@@ -39,7 +39,7 @@ FrameHead schema sent number (Wait head a) = IsOfRow schema number head.sync hea
 abbrev pub EntryHead : Schema → List Note → StackEntry → Type 0
 EntryHead schema sent entry = FrameHead schema sent entry.number entry.frame
 
--- what has arrived is sync and of a level as its row is; a reply is async
+-- what has arrived has the sync and level of its row; a reply is async
 abbrev pub BodyHead : Schema → Message → Bool → Level → Body → Type 0
 BodyHead schema m sync level (Request vs) = IsOfRow schema m.number sync level
 BodyHead schema m sync level (Reply vs) = sync ≡ false
@@ -50,7 +50,7 @@ abbrev pub ItemHead : Schema → Item → Type 0
 ItemHead schema (item.Message m sync level) = BodyHead schema m sync level m.body
 ItemHead schema item.Broken = Unit {0}
 
--- All that an end handles, waits for and has been given has such heads.
+-- All that an end handles, waits for and has received has such heads.
 pub record HasHeads (schema : Schema) (sent : List Note) (e : End) : Type 0 where
   pub entries : AllByRecursion (EntryHead schema sent) e.stack
   pub arrived : AllByRecursion (ItemHead schema) e.arrived

@@ -23,7 +23,7 @@ use Rattle.channel_model.specs.Deliveries.{unanswered, failed}
 use Rattle.channel_model.specs.Ends.{End, World, StackEntry, Packet, message, mark, end_of, link_to, opening}
 use Rattle.channel_model.specs.Events.{Move}
 use Rattle.channel_model.specs.Events as event
-use Rattle.channel_model.specs.Numbers.{other}
+use Rattle.ipdl_base.specs.Sides.{other}
 use Rattle.channel_model.specs.Outputs.{Output, is_open, line_at}
 use Rattle.channel_model.specs.Refusals.{is_waited_for}
 use Rattle.channel_model.specs.Runs.{happens, run, is_still}
@@ -43,11 +43,11 @@ pub record NestedWorldsStay : Type 0 where
   pub opening : (schema : Schema) (top : ℕ) → IsNestedWorld schema (opening top)
   pub stays : (schema : Schema) → IsSound schema → (move : Move) (w : World) → IsNestedWorld schema w → IsNestedWorld schema (happens schema w move).world
 
--- the world behind moves from the opening world of a top protocol
+-- the world after moves from the opening world of a top protocol
 abbrev pub world_of : Schema → ℕ → List Move → World
 world_of schema top moves = (run schema moves (opening top)).world
 
--- So the world behind any moves is nested.
+-- The world after any moves is nested.
 abbrev pub NestingInEveryRun : Type 0
 NestingInEveryRun = (schema : Schema) → IsSound schema → (top : ℕ) (moves : List Move) → IsNestedWorld schema (world_of schema top moves)
 
@@ -58,19 +58,19 @@ IsReply (Reply vs) = Unit {0}
 IsReply (Fault reason) = Unit {0}
 IsReply Goodbye = ⊥
 
--- the reply that the innermost wait without an answer awaits: its number, its actor and its message
+-- the reply that the innermost unanswered wait waits for: its number, its actor and its message
 abbrev pub awaited_reply : List StackEntry → Option ReplyHead
 awaited_reply stack = option_map (λ entry. record { seq = (head_of entry.frame).seq; route = entry.route; number = entry.number + 1 }) (find (λ entry. is_unanswered entry.frame) stack)
 
--- A reply to a sync request that is first on the link toward an open end is the one that the innermost wait without an
--- answer awaits there, also where the other end has closed or died.
+-- A reply to a sync request that is first on the link toward an open end is the one that the innermost unanswered
+-- wait waits for there, even if the other end has closed or died.
 abbrev pub RepliesFindTheirWaits : Type 0
 RepliesFindTheirWaits =
     (schema : Schema) → IsSound schema → (top : ℕ) (moves : List Move) (side : Side) (m : Message) (rest : List Packet)
     → (end_of side (world_of schema top moves)).state ≡ Open → link_to side (world_of schema top moves) ≡ message m ∷ rest → IsReply m.body → is_sync_number schema m.number ≡ true
     → awaited_reply (end_of side (world_of schema top moves)).stack ≡ Some (reply_head m)
 
--- So an open end refuses none of them as stray.
+-- An open end refuses no such reply as stray.
 abbrev pub SyncRepliesAreNotStray : Type 0
 SyncRepliesAreNotStray =
     (schema : Schema) → IsSound schema → (top : ℕ) (moves : List Move) (side : Side) (m : Message) (rest : List Packet)
@@ -82,8 +82,8 @@ abbrev pub last_packet_line : Packet → What
 last_packet_line (message m) = what.DeliverGoodbye
 last_packet_line mark = what.DeliverBroken
 
--- All waits of an end fail, the innermost first: each that has no answer has its line and the fault `ChannelClosed`, and
--- none is left without an answer.
+-- All waits of an end fail, the innermost first: each unanswered wait has its line and the fault `ChannelClosed`, and
+-- no wait is left unanswered.
 pub record AllWaitsFail (packet : Packet) (e : End) (output : Output) : Type 0 where
   pub lines : output.lines ≡ line_at e.side (last_packet_line packet) ∷ map (line_at e.side) (map what.Fails (unanswered e))
   pub frames : frames_of output.end ≡ map failed (frames_of e)
@@ -95,7 +95,7 @@ LastPacketsFailAllWaits =
     (schema : Schema) (e : End) (packet : Packet) (rest : List Packet) (output : Output)
     → is_last_packet packet ≡ true → step schema e (packet ∷ rest) event.deliver ≡ Some output → AllWaitsFail packet e output
 
--- Where nothing can happen by itself, no end awaits a reply.
+-- Where nothing can happen by itself, no end waits for a reply.
 abbrev pub StillEndsWaitForNothing : Type 0
 StillEndsWaitForNothing =
     (schema : Schema) → IsSound schema → (top : ℕ) (moves : List Move) (side : Side) → is_still schema (world_of schema top moves) ≡ true
@@ -105,18 +105,19 @@ StillEndsWaitForNothing =
 abbrev pub waits_for : Side → ℤ → World → Bool
 waits_for side seq w = list_any (λ n. int_eq n seq) (unanswered (end_of side w))
 
--- One of these moves, from a world on, ends the wait for a number: the wait stands before that move, and not behind it.
+-- One of these moves, made from a given world, ends the wait for a number: the wait is there before that move, and
+-- not after it.
 pub record EndsWait (schema : Schema) (side : Side) (seq : ℤ) (w : World) (moves : List Move) : Type 0 where
   pub before : List Move
   pub move : Move
-  pub behind : List Move
-  pub whole : moves ≡ before ++ move ∷ behind
+  pub following : List Move
+  pub whole : moves ≡ before ++ move ∷ following
   pub stands : waits_for side seq (run schema before w).world ≡ true
   pub gone : waits_for side seq (happens schema (run schema before w).world move).world ≡ false
 
--- A history that becomes still leaves no end waiting: behind moves that lead to a still world each wait that is left has
--- its answer. So each wait that stands behind some of these moves is ended by one of the others. And as long as one has
--- no answer, something can happen by itself.
+-- A history that becomes still leaves no end waiting: after moves that lead to a still world each wait that is left
+-- has its answer. So each wait that is there after some of these moves is ended by one of the others. And as long as
+-- a wait has no answer, something can happen by itself.
 pub record StillHistoriesLeaveNoEndWaiting : Type 0 where
   pub answered : (schema : Schema) → IsSound schema → (top : ℕ) (moves : List Move) (side : Side) → is_still schema (world_of schema top moves) ≡ true → AllByRecursion IsAnswered (frames_of (end_of side (world_of schema top moves)))
   pub ended : (schema : Schema) → IsSound schema → (top : ℕ) (front back : List Move) (side : Side) (seq : ℤ) → waits_for side seq (world_of schema top front) ≡ true → is_still schema (world_of schema top (front ++ back)) ≡ true → EndsWait schema side seq (world_of schema top front) back
@@ -129,13 +130,13 @@ WaitsGiveWay =
     → top_of (frames_of (end_of Parent (world_of schema top moves))) ≡ Unanswered w → top_of (frames_of (end_of Child (world_of schema top moves))) ≡ Unanswered v
     → Defers Parent (frames_of (end_of Parent (world_of schema top moves))) v → Defers Child (frames_of (end_of Child (world_of schema top moves))) w → ⊥
 
--- What an open end may rely on: the other end is not draining. Where that is open no goodbye and no mark is on the link
--- from it; where it has closed or died, its last packet stands there last and alone.
-pub record EndsAreTold (w : World) (side : Side) : Type 0 where
+-- What an open end may rely on: the other end is not draining. If the other end is open, no goodbye and no mark is on
+-- the link from it; if it has closed or died, its last packet is on the link, last and alone.
+pub record EndsAreRecorded (w : World) (side : Side) : Type 0 where
   pub told : (end_of (other side) w).state ≡ Draining → ⊥
   pub goes_on : (end_of (other side) w).state ≡ Open → HasNoLastPacket (link_to side w)
   pub ends : is_open (end_of (other side) w).state ≡ false → EndsInLastPacket (link_to side w)
 
--- In every run an open end may rely on it.
-abbrev pub EndsAreToldInRuns : Type 0
-EndsAreToldInRuns = (schema : Schema) → IsSound schema → (top : ℕ) (moves : List Move) (side : Side) → (end_of side (world_of schema top moves)).state ≡ Open → EndsAreTold (world_of schema top moves) side
+-- In every run an open end may rely on this.
+abbrev pub EndsAreRecordedInRuns : Type 0
+EndsAreRecordedInRuns = (schema : Schema) → IsSound schema → (top : ℕ) (moves : List Move) (side : Side) → (end_of side (world_of schema top moves)).state ≡ Open → EndsAreRecorded (world_of schema top moves) side

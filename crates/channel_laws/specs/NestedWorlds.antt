@@ -9,19 +9,19 @@ use Rattle.nesting_laws.specs.Calls.{SyncFrame, SyncEnd, sync_end}
 use Rattle.nesting_laws.specs.Nested.{AreNested}
 use Rattle.nesting_laws.specs.Alone.{IsAlone}
 use Rattle.channel_model.specs.Ends.{End, World, Packet, message, mark}
-use Rattle.channel_model.specs.Numbers.{other}
+use Rattle.ipdl_base.specs.Sides.{other}
 use Rattle.channel_model.specs.Outputs.{is_open}
 use Rattle.channel_model.specs.Sends.{frames_of}
 use Rattle.channel_model.specs.States.{IsAnswered, is_goodbye}
 use Rattle.channel_laws.specs.SyncCalls.{sync_calls, sync_packets}
 use Rattle.channel_laws.specs.OpenEnds.{PacketAgrees, IsOpenEnd}
 
--- two ends are nested, the first that of a side
+-- two ends are nested, where the first is that of a side
 abbrev pub AreNestedFrom : Side → SyncEnd → SyncEnd → Type 0
 AreNestedFrom Parent mine theirs = AreNested mine theirs
 AreNestedFrom Child mine theirs = AreNested theirs mine
 
--- an end that shows these sync frames, as far as sync requests go
+-- an end that shows these sync frames, reduced to its sync requests
 abbrev pub sync_end_of : Schema → End → List Packet → List SyncFrame → SyncEnd
 sync_end_of schema e link stack = sync_end stack (sync_calls e.arrived) (sync_packets schema link)
 
@@ -34,22 +34,22 @@ is_last_packet mark = true
 abbrev pub HasNoLastPacket : List Packet → Type 0
 HasNoLastPacket link = AllByRecursion (λ packet. is_last_packet packet ≡ false) link
 
--- The last packet of an end stands last, and there alone.
+-- The last packet of an end is last on the link, and nowhere else.
 pub data EndsInLastPacket : List Packet → Type 0 where
   last_alone : {packet : Packet} → is_last_packet packet ≡ true → EndsInLastPacket (packet ∷ [])
   last_later : {packet : Packet} {rest : List Packet} → is_last_packet packet ≡ false → EndsInLastPacket rest → EndsInLastPacket (packet ∷ rest)
 
--- An end is not open, and waits for nothing.
+-- An end is not open, and has no unanswered wait.
 pub record IsOver (e : End) : Type 0 where
   pub over : is_open e.state ≡ false
   pub nobody : AllByRecursion IsAnswered (frames_of e)
 
--- An end has closed or died, and waits for nothing.
+-- An end has closed or died, and has no unanswered wait.
 pub record IsGone (e : End) : Type 0 where
   pub ended : IsOver e
   pub told : e.state ≡ Draining → ⊥
 
--- Both ends are open and nested; or one is open, and alone, since the other has closed or died; or neither is.
+-- Both ends are open and nested; or one is open, and alone, since the other has closed or died; or neither is open.
 pub data EndsAreNested (schema : Schema) (side : Side) (mine theirs : End) (to_me to_them : List Packet) : Type 0 where
   both_open : {stack under : List SyncFrame} → IsOpenEnd schema mine stack → IsOpenEnd schema theirs under → AreNestedFrom side (sync_end_of schema mine to_me stack) (sync_end_of schema theirs to_them under) → EndsAreNested schema side mine theirs to_me to_them
   mine_open : {stack : List SyncFrame} → IsOpenEnd schema mine stack → IsGone theirs → EndsInLastPacket to_me → IsAlone side (sync_end_of schema mine to_me stack) → EndsAreNested schema side mine theirs to_me to_them

@@ -1,4 +1,4 @@
--- What has arrived at an end is what the other end's lines tell of.
+-- What has arrived at an end was sent by the other end, by that end's lines.
 use Rattle.std.specs.Prelude.{◌≡◌, List}
 use Rattle.std.specs.List.{AllByRecursion}
 use Rattle.ipdl_base.specs.declared.kinds.Side.{Side}
@@ -19,15 +19,15 @@ ItemIsNoted schema sent item.Broken = Unit {0}
 abbrev pub ArrivalsAreNoted : Schema → List Note → End → Type 0
 ArrivalsAreNoted schema sent e = AllByRecursion (ItemIsNoted schema sent) e.arrived
 
--- a request is read as one that makes a promise where its message does
+-- a request is read as one that makes a promise exactly where its message makes one
 abbrev pub HasWantsOfRow : Schema → Request → Type 0
 HasWantsOfRow schema r = r.wants ≡ wants_number schema r.number
 
 abbrev pub HaveWantsOfRows : Schema → List SentPacket → Type 0
 HaveWantsOfRows schema sent = AllByRecursion (HasWantsOfRow schema) (requests_of sent)
 
--- What has arrived at an end is noted among what the other, that of a side, has sent; and requests are read as their
--- messages are.
+-- What has arrived at an end is noted among what the other end, that of a side, has sent; and requests are read as
+-- their messages require.
 pub record IsNoted (schema : Schema) (their_side : Side) (others : EndReading) (e : End) (own : EndReading) : Type 0 where
   pub arrived : ArrivalsAreNoted schema (told_notes their_side others.sent) e
   pub wants : HaveWantsOfRows schema own.sent

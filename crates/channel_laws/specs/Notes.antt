@@ -1,4 +1,4 @@
--- What an end has sent, told alike of the reading of its lines and of the packets on the link.
+-- What an end has sent, in one form for the reading of its lines and for the packets on the link.
 use Rattle.std.specs.Prelude.{◌==◌, ℕ, ℤ, pos, Bool, true, false, if◌then◌else◌, List, ◌∷◌, map}
 use Rattle.ipdl_base.specs.declared.kinds.Reason.{Reason}
 use Rattle.ipdl_base.specs.declared.kinds.Reason.TheVariants as reason
@@ -16,7 +16,7 @@ use Rattle.history_reading.specs.SentPacket.{SentPacket, ReplyContent, resolved,
 use Rattle.channel_model.specs.Ends.{Packet, message, mark}
 use Rattle.channel_model.specs.Numbers.{id_of}
 
--- A request, with the id of the actor that it makes, 0 where it makes none.
+-- A request, with the id of the actor that it makes, or 0.
 pub record RequestNote : Type 0 where
   pub seq : ℤ
   pub transaction : ℤ
@@ -34,11 +34,11 @@ pub data Note : Type 0 where
   goodbye : Note
   broken : Note
 
--- the note of a request that an end's lines tell of
+-- the note of a request that an end's lines show
 abbrev pub request_note : Side → told.Request → RequestNote
 request_note side r = record { seq = r.seq; transaction = r.transaction; sync = r.sync; wants = r.wants; route = r.route; number = r.number; made = if r.made == 0 then pos 0 else id_of side r.made; values = r.values }
 
--- and of each packet that they tell of
+-- the note of each packet that they show
 abbrev pub told_note : Side → SentPacket → Note
 told_note side (told.request r) = asks (request_note side r)
 told_note side (told.said n content) = says n content
@@ -48,12 +48,12 @@ told_note side told.broken = broken
 abbrev pub told_notes : Side → List SentPacket → List Note
 told_notes side sent = map (told_note side) sent
 
--- what a reply with values says, by whether its request is sync
+-- the content of a reply with values, by whether its request is sync
 abbrev pub values_content : Bool → Values → ReplyContent
 values_content true vs = ok vs
 values_content false vs = resolved vs
 
--- and one with a fault
+-- the content of a reply with a fault
 abbrev pub fault_content : Bool → Reason → ReplyContent
 fault_content true r = fault r
 fault_content false reason.HandlerRejected = rejected
@@ -65,7 +65,7 @@ fault_content false reason.ResolverDestroyed = fault reason.ResolverDestroyed
 abbrev pub message_note : Schema → Message → Values → RequestNote
 message_note schema m vs = record { seq = m.seq; transaction = m.transaction; sync = is_sync_number schema m.number; wants = wants_number schema m.number; route = m.route; number = m.number; made = m.made; values = vs }
 
--- and of each packet on a link
+-- the note of each packet on a link
 abbrev pub body_note : Schema → Message → Body → Note
 body_note schema m (Request vs) = asks (message_note schema m vs)
 body_note schema m (Reply vs) = says m.seq (values_content (is_sync_number schema m.number) vs)
@@ -79,7 +79,7 @@ packet_note schema mark = broken
 abbrev pub notes : Schema → List Packet → List Note
 notes schema packets = map (packet_note schema) packets
 
--- what the delivery of a packet shows of it, by its note
+-- what the delivery of a packet shows, by the note of the packet
 abbrev pub note_kind : Note → PacketKind
 note_kind (asks r) = seen.Request r.seq
 note_kind (says n content) = seen.Reply n

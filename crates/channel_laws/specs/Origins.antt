@@ -1,4 +1,4 @@
--- The requests of the other end from which comes what an end handles, keeps or answers.
+-- What an end handles, keeps or answers comes from requests of the other end.
 use Rattle.std.specs.Prelude.{◌≡◌, ℕ, ◌+◌, ℤ, true, List, Some}
 use Rattle.std.specs.List.{AllByRecursion}
 use Rattle.ipdl_base.specs.declared.message.Body.{Body}
@@ -28,7 +28,8 @@ pub record Origin (schema : Schema) (sent : List Note) (seq : ℤ) (route : ℤ)
   pub found : request_row schema number ≡ Some row
   pub requested : IsRequested sent seq route number
 
--- A frame's request has a row, and a resolver only where it makes a promise; a dispatch is of a request that was sent.
+-- The request of a frame has a row, and a resolver only where it makes a promise; a dispatch is of a request that was
+-- sent.
 pub record EntryOrigin (schema : Schema) (sent : List Note) (entry : StackEntry) : Type 0 where
   pub row : MessageRow
   pub found : request_row schema entry.number ≡ Some row
@@ -51,7 +52,7 @@ NamingOrigin schema sent naming = ContentOrigin schema sent naming.holds
 abbrev pub HasRow : Schema → ℕ → Type 0
 HasRow schema number = (row : MessageRow) × (message_of schema number ≡ Some row)
 
--- a message that comes is a request that was sent, or a reply with a row
+-- a message on the link is a request that was sent, or a reply with a row
 abbrev pub BodyOrigin : Schema → List Note → Message → Body → Type 0
 BodyOrigin schema sent m (Request vs) = Origin schema sent m.seq m.route m.number
 BodyOrigin schema sent m (Reply vs) = HasRow schema m.number

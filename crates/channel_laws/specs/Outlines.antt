@@ -1,4 +1,4 @@
--- What the reading of an end's lines says of its state, its stack and its constructors.
+-- What the reading of an end's lines shows of its state, its stack and its constructors.
 use Rattle.std.specs.Prelude.{◌≡◌, ℕ, ℤ, Bool, true, false, List, map, Some, None}
 use Rattle.std.specs.List.{AllByRecursion}
 use Rattle.ipdl_base.specs.declared.kinds.EndState.{EndState}
@@ -11,14 +11,14 @@ use Rattle.history_reading.specs.EndReading.{EndReading}
 use Rattle.channel_model.specs.Ends.{End, StackEntry}
 use Rattle.channel_model.specs.States.{IsOrdinary}
 
--- whether an end of a state has sent or been given an end of the channel; of one that has died this is not said
+-- whether the end of the channel was sent or received, by the state of an end; a dead end may have either
 abbrev pub Ended : EndState → Bool → Type 0
 Ended Open ended = ended ≡ false
 Ended Draining ended = ended ≡ true
 Ended Closed ended = ended ≡ true
 Ended Dead ended = Unit {0}
 
--- whether an end of a state has closed; of one that has died this is not said
+-- whether an end has closed, by its state; a dead end may have closed or not
 abbrev pub Over : EndState → Bool → Type 0
 Over Open over = over ≡ false
 Over Draining over = over ≡ false
@@ -40,7 +40,8 @@ placeless (frame.Dispatch d) = frame.Dispatch d
 placeless (frame.Unanswered c) = frame.Unanswered (record c { place = 0 })
 placeless (frame.Answered c) = frame.Answered (record c { place = 0 })
 
--- What is read of an end's state, of whether it has ended and closed, of its stack and of how many actors it has made.
+-- What is read: an end's state, whether it has ended and closed, its stack, and the number of actors that it has
+-- made.
 pub record Outline : Type 0 where
   pub state : EndState
   pub ended : Bool
@@ -51,7 +52,7 @@ pub record Outline : Type 0 where
 abbrev pub outline : EndReading → Outline
 outline own = record { state = own.state; ended = own.ended; over = own.over; stack = map placeless own.stack; made = own.made }
 
--- The outline of what is read is that of the end; and nothing that has arrived at an open end is a farewell.
+-- What is read is the outline of the end; and at an open end no item that has arrived is a farewell.
 pub record HasOutline (e : End) (read : Outline) : Type 0 where
   pub state : read.state ≡ e.state
   pub ended : Ended e.state read.ended

@@ -1,4 +1,4 @@
--- What lines tell of the requests for whose replies an end waits.
+-- What lines show of the requests for whose replies an end waits.
 use Rattle.std.specs.Prelude.{◌≡◌, true, false}
 use Rattle.std.specs.List.{AllByRecursion}
 use Rattle.nesting_core.specs.Frames.{head_of, is_dispatch}
@@ -14,7 +14,7 @@ IsOwnWait own entry = is_dispatch entry.frame ≡ false → is_sync_request own 
 abbrev pub WaitsOneWay : Request → Type 0
 WaitsOneWay r = r.wants ≡ true → r.sync ≡ false
 
--- Each wait is for a sync request of the end, and no request of it is both sync and promised.
+-- Each wait is for a sync request of the end, and no request of the end is both sync and promised.
 pub record WaitsAreOwn (e : End) (own : EndReading) : Type 0 where
   pub waits : AllByRecursion (IsOwnWait own) e.stack
   pub requests : AllByRecursion WaitsOneWay (requests_of own.sent)

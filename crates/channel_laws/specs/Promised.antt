@@ -1,4 +1,4 @@
--- What lines tell of an end's promises.
+-- What lines show of an end's promises.
 use Rattle.std.specs.Prelude.{◌≡◌, ℕ, ℤ, true, not, cond, List, [], ◌∷◌, map}
 use Rattle.std.specs.List.{AllByRecursion, flat_map}
 use Rattle.ipdl_base.specs.declared.kinds.Side.{Side}
@@ -20,7 +20,7 @@ pub record Promised : Type 0 where
 abbrev pub promised_by : Request → List Promised
 promised_by r = cond r.wants (record { seq = r.seq; route = r.route; number = r.number } ∷ []) []
 
--- those among requests that make promises
+-- the requests that make promises
 abbrev pub promised_in : List Request → List Promised
 promised_in requests = flat_map promised_by requests
 
@@ -35,16 +35,16 @@ pub record PromiseReading : Type 0 where
 abbrev pub promise_reading : EndReading → PromiseReading
 promise_reading own = record { requests = requests_of own.sent; settled = own.settled }
 
--- how many requests have a number
+-- the number of requests with a number
 abbrev pub requests_numbered : List Request → ℤ → ℕ
 requests_numbered requests n = how_many (is_number n) (map request_seq requests)
 
--- a promise is pending where it was not settled
+-- a promise is pending exactly where it was not settled
 abbrev pub IsReadPromise : List ℤ → PromiseEntry → Type 0
 IsReadPromise settled entry = is_pending entry.promise ≡ not (has settled entry.promise.seq)
 
--- An end's promises are those that its requests make, in their order, and each is pending until it is settled; its
--- requests are some of the first so many of its side, none twice, and only their promises are settled.
+-- An end's promises are those that its requests make, in their order, and each is pending until it is settled. Its
+-- requests are among the first `count` of its side, none twice, and only their promises are settled.
 pub record HasPromises (side : Side) (promises : List PromiseEntry) (count : ℕ) (read : PromiseReading) : Type 0 where
   pub promises_are : map promised_entry promises ≡ promised_in read.requests
   pub outcomes : AllByRecursion (IsReadPromise read.settled) promises

@@ -1,4 +1,4 @@
--- Which protocol an id stands for, and that all that a world speaks of has the protocol of its type.
+-- Which protocol each id has, and that all that refers to an actor in a world uses the protocol of its type.
 use Rattle.std.specs.Prelude.{◌≡◌, ◌⊎◌, ℕ, ◌+◌, ℤ, pos, false, List, ◌∷◌, ◌++◌, length, Some, None}
 use Rattle.std.specs.List.{AllByRecursion}
 use Rattle.actor_tree.specs.declared.actor.Actor.{Actor}
@@ -20,7 +20,8 @@ use Rattle.nesting_core.specs.declared.frame.StackFrame.TheVariants.{Dispatch, W
 use Rattle.pending_queue.specs.declared.item.Item.{Item}
 use Rattle.pending_queue.specs.declared.item.Item.TheVariants as item
 use Rattle.channel_model.specs.Ends.{End, World, Packet, message, mark, StackEntry, NameContent, actor, resolver, Naming}
-use Rattle.channel_model.specs.Numbers.{other, id_of, top_id, protocol_of, request_row}
+use Rattle.ipdl_base.specs.Sides.{other, top_id}
+use Rattle.channel_model.specs.Numbers.{id_of, protocol_of, request_row}
 use Rattle.channel_model.specs.Refusals.{actors_of}
 use Rattle.channel_model.specs.ValueActors.{ActorValue, actors_in_parts}
 
@@ -30,18 +31,18 @@ pub record Protocols : Type 0 where
   pub parent : List ℕ
   pub child : List ℕ
 
--- An id is that of an actor of a protocol, by its place among those that a side has constructed.
+-- An id is that of an actor of a protocol, by its place among the actors that a side has constructed.
 pub record IsConstructed (side : Side) (protocols : List ℕ) (id : ℤ) (protocol : ℕ) : Type 0 where
   pub before : List ℕ
   pub after : List ℕ
   pub place : protocols ≡ before ++ protocol ∷ after
   pub id_is : id ≡ id_of side (length before + 1)
 
--- an id stands for an actor of a protocol: the top actor, or one that a side has constructed
+-- an id belongs to an actor of a protocol: the top actor, or one that a side has constructed
 abbrev pub StandsFor : Protocols → ℤ → ℕ → Type 0
 StandsFor made id protocol = ((id ≡ top_id) × (protocol ≡ made.top)) ⊎ (IsConstructed Parent made.parent id protocol ⊎ IsConstructed Child made.child id protocol)
 
--- an actor in a value is null, or its id stands for one of the protocol of its type
+-- an actor in a value is null, or its id belongs to one of the protocol of its type
 abbrev pub HasItsProtocol : Protocols → ActorValue → Type 0
 HasItsProtocol made a = (a.id ≡ pos 0) ⊎ StandsFor made a.id a.protocol
 
@@ -52,13 +53,13 @@ HaveTheirProtocols made actors = AllByRecursion (HasItsProtocol made) actors
 abbrev pub route_actor : ℤ → ℕ → ActorValue
 route_actor route number = record { id = route; protocol = protocol_of number; nullable = false }
 
--- the id that a constructor makes stands for the protocol that it constructs
+-- the id of the actor that a constructor makes belongs to the protocol that it constructs
 abbrev pub MakesItsProtocol : Protocols → Kind → ℤ → Type 0
 MakesItsProtocol made Normal id = Unit {0}
 MakesItsProtocol made (Constructor protocol) id = StandsFor made id protocol
 MakesItsProtocol made Delete id = Unit {0}
 
--- A request has the number of its message's requests, and makes an actor of the protocol that it constructs.
+-- A request has the request number of its message, and makes an actor of the protocol that it constructs.
 pub record IsRightRequest (schema : Schema) (made : Protocols) (row : MessageRow) (m : Message) : Type 0 where
   pub found : request_row schema m.number ≡ Some row
   pub makes : MakesItsProtocol made row.kind m.made
@@ -69,16 +70,16 @@ IsRightBody schema made row m (Reply vs) = Unit {0}
 IsRightBody schema made row m (Fault reason) = Unit {0}
 IsRightBody schema made row m Goodbye = Unit {0}
 
--- A message of a row: all actors that it speaks of have their protocols.
+-- A message of a row: all actors that it refers to have their protocols.
 pub record IsRightMessage (schema : Schema) (made : Protocols) (m : Message) (row : MessageRow) (body : Body) : Type 0 where
   pub actors : HaveTheirProtocols made (actors_of schema row m body)
   pub request : IsRightBody schema made row m body
 
--- a message is right as one of the row that it has, if it has one
+-- a message is right as one of its row, if it has one
 abbrev pub MessageHasProtocols : Schema → Protocols → Message → Type 0
 MessageHasProtocols schema made m = (row : MessageRow) → message_of schema m.number ≡ Some row → IsRightMessage schema made m row m.body
 
--- A request that an end has taken or sent has a row, and the actor that it went to has the protocol of that.
+-- A request that an end has taken or sent has a row, and the actor that it went to has the protocol of that row.
 pub record KeptRequest (schema : Schema) (made : Protocols) (route : ℤ) (number : ℕ) : Type 0 where
   pub row : MessageRow
   pub found : request_row schema number ≡ Some row
@@ -114,11 +115,11 @@ abbrev pub PacketHasProtocols : Schema → Protocols → Packet → Type 0
 PacketHasProtocols schema made (message m) = MessageHasProtocols schema made m
 PacketHasProtocols schema made mark = Unit {0}
 
--- the id of a living actor stands for its protocol
+-- the id of a living actor belongs to its protocol
 abbrev pub ActorHasProtocol : Protocols → Actor → Type 0
 ActorHasProtocol made a = StandsFor made a.id a.protocol
 
--- All that an end keeps has the protocols that ids stand for.
+-- All that an end keeps has the protocols of the ids.
 pub record HasProtocols (schema : Schema) (made : Protocols) (e : End) : Type 0 where
   pub actors : AllByRecursion (ActorHasProtocol made) e.actors
   pub entries : AllByRecursion (EntryHasProtocols schema made) e.stack
@@ -126,12 +127,12 @@ pub record HasProtocols (schema : Schema) (made : Protocols) (e : End) : Type 0 
   pub arrived : AllByRecursion (ItemHasProtocols schema made) e.arrived
   pub outbox : AllByRecursion (MessageHasProtocols schema made) e.outbox
 
--- how many actors a side has constructed
+-- the number of actors that a side has constructed
 abbrev pub constructed_count : Side → Protocols → ℕ
 constructed_count Parent made = length made.parent
 constructed_count Child made = length made.child
 
--- Each id stands for one protocol, by which both ends, the first that of a side, and all packets between them speak of it.
+-- Each id has one protocol, which both ends, the first that of a side, and all packets between them use for it.
 pub record EndsHaveProtocols (schema : Schema) (top : ℕ) (side : Side) (mine theirs : End) (to_me to_them : List Packet) : Type 0 where
   pub made : Protocols
   pub top_is : made.top ≡ top

@@ -1,4 +1,4 @@
--- Quiet worlds: whoever chooses the steps of both ends has nothing left to choose, and nothing is to be delivered.
+-- Quiet worlds: no step of an end is left to choose, and nothing can be delivered.
 use Rattle.std.specs.Prelude.{◌≡◌, ℕ, Bool, true, not, ◌&&◌, ◌||◌, List, Option, None, is_some, is_none}
 use Rattle.std.specs.List.{AllByRecursion}
 use Rattle.ipdl_base.specs.declared.kinds.Side.{Side}
@@ -13,7 +13,7 @@ use Rattle.channel_model.specs.Sends.{frames_of}
 use Rattle.channel_model.specs.States.{IsAnswered}
 use Rattle.channel_laws.specs.Laws.{world_of}
 
--- a choice of own steps at one moment: what each end does next, or nothing
+-- a choice of own steps at one moment: what each end does next, or `None`
 abbrev pub Choice : Type 0
 Choice = Side → Option Event
 
@@ -36,8 +36,8 @@ is_quiet_at schema w choice side = is_none (choice side) && not (is_possible sch
 abbrev pub is_quiet : Schema → World → Choice → Bool
 is_quiet schema w choice = is_quiet_at schema w choice Parent && is_quiet_at schema w choice Child
 
--- A world that is quiet for a choice that leaves no work is still. So in every run of a sound schema each wait that is
--- left there has its answer.
+-- A world that is quiet for a choice that leaves no work is still. So in every run of a sound schema each wait that
+-- is left there has its answer.
 pub record QuietWorldsAreStill : Type 0 where
   pub still : (schema : Schema) (w : World) (choice : Choice) → LeavesNoWork schema w choice → is_quiet schema w choice ≡ true → is_still schema w ≡ true
   pub answered : (schema : Schema) → IsSound schema → (top : ℕ) (moves : List Move) (choice : Choice) → LeavesNoWork schema (world_of schema top moves) choice → is_quiet schema (world_of schema top moves) choice ≡ true → (side : Side) → AllByRecursion IsAnswered (frames_of (end_of side (world_of schema top moves)))

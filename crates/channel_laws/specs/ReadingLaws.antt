@@ -1,4 +1,4 @@
--- What the lines of every legal history say: the reading of them is the world, and they can be read.
+-- What the lines of every legal history show: their reading is the world, and they can be read.
 use Rattle.std.specs.Prelude.{ℕ, List}
 use Rattle.ipdl_base.specs.declared.schema.Schema.{Schema}
 use Rattle.ipdl_base.specs.Sound.{IsSound}
@@ -12,13 +12,13 @@ use Rattle.channel_laws.specs.EndActors.{ReadsActors}
 use Rattle.channel_laws.specs.Exchanges.{ReadsExchanges}
 use Rattle.channel_laws.specs.TwoEnds.{ReadingIs}
 
--- What is read of an end is what it keeps by itself: its living actors, what has arrived, its promises, what it has
--- answered, and its waits.
+-- What is read of an end is what it keeps: its living actors, what has arrived, its promises, what it has answered,
+-- and its waits.
 pub record EndIsRead (schema : Schema) (e : End) (own : EndReading) : Type 0 where
   pub actors : ReadsActors schema e own
   pub exchanges : ReadsExchanges schema e own
 
--- What is read of both ends is what they keep, each by itself and between them.
+-- What is read of both ends is what they keep, each on its own and between them.
 pub record WorldIsRead (schema : Schema) (world : World) (reading : Reading) : Type 0 where
   pub between : ReadingIs schema world reading
   pub parent : EndIsRead schema world.parent reading.parent

@@ -1,4 +1,4 @@
--- What is known of replies that have arrived, and of what an end says in its replies.
+-- What is known of replies that have arrived, and of the replies that an end sends.
 use Rattle.std.specs.Prelude.{List}
 use Rattle.std.specs.List.{AllByRecursion}
 use Rattle.ipdl_base.specs.declared.kinds.Reason.TheVariants.{ChannelClosed, HandlerRejected, ActorDestroyed, ResolverDestroyed}
@@ -16,7 +16,7 @@ abbrev pub ItemReplies : Schema → List Note → Item → Type 0
 ItemReplies schema sent (item.Message m sync level) = BodyReplies schema sent m m.body
 ItemReplies schema sent item.Broken = Unit {0}
 
--- no end says that the channel has closed: it says so by a goodbye or a mark
+-- no end replies that the channel has closed: it sends a goodbye or a mark for that
 abbrev pub IsNoClosedFault : ReplyContent → Type 0
 IsNoClosedFault (resolved vs) = Unit {0}
 IsNoClosedFault rejected = Unit {0}
@@ -32,8 +32,8 @@ SaysNoClosedFault (said n content) = IsNoClosedFault content
 SaysNoClosedFault goodbye = Unit {0}
 SaysNoClosedFault broken = Unit {0}
 
--- What an end reads of replies: those that have arrived are to requests that it has sent, and in none that it has sent
--- it says that the channel has closed.
+-- What an end reads of replies: those that have arrived are to requests that it has sent, and no reply that it has
+-- sent says that the channel has closed.
 pub record ReadsReplies (schema : Schema) (e : End) (own : EndReading) : Type 0 where
   pub arrived : AllByRecursion (ItemReplies schema (told_notes e.side own.sent)) e.arrived
   pub said_by : AllByRecursion SaysNoClosedFault own.sent

@@ -1,4 +1,4 @@
--- What a sound schema says of the rows of requests.
+-- What the soundness of a schema implies for the rows of requests.
 use Rattle.std.specs.Prelude.{◌≡◌, ℕ, ◌+◌, true, false, Some}
 use Rattle.ipdl_base.specs.declared.kinds.Compress.TheVariants.{Plain}
 use Rattle.ipdl_base.specs.declared.kinds.Level.TheVariants.{InsideSync}
@@ -7,12 +7,13 @@ use Rattle.ipdl_base.specs.declared.schema.Kind.TheVariants.{Delete}
 use Rattle.ipdl_base.specs.declared.schema.MessageRow.{MessageRow}
 use Rattle.ipdl_base.specs.declared.schema.Schema.{Schema}
 use Rattle.ipdl_base.specs.Sound.{has_reply, message_of}
-use Rattle.channel_model.specs.Numbers.{sends, is_sync_row, request_row}
+use Rattle.ipdl_base.specs.Sides.{sends}
+use Rattle.channel_model.specs.Numbers.{is_sync_row, request_row}
 use Rattle.channel_laws.specs.SyncCalls.{is_sync_number, level_of}
 
--- The row of the request of a number: it has that number, is sync and of a level as the number is, and where it has a
--- reply, the next number is its too, and sync as it is. A lazy message and a destructor are async, a sync message is not
--- compressed, and one that the parent sends has level inside_sync.
+-- The row of the request of a number: it has that number, with the sync and level that the schema has for it; where
+-- it has a reply, the next number belongs to it too and is sync as it is. A lazy message and a destructor are async,
+-- a sync message is not compressed, and a sync message that the parent sends has level inside_sync.
 pub record IsSoundRow (schema : Schema) (n : ℕ) (row : MessageRow) : Type 0 where
   pub number : row.number ≡ n
   pub is_sync : is_sync_number schema n ≡ is_sync_row row

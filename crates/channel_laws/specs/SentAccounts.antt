@@ -1,4 +1,4 @@
--- What an end has sent, by its lines, is what left it, what waits in its outbox, and what was lost.
+-- What an end has sent, by its lines, is what has left it, what waits in its outbox, and what was lost.
 use Rattle.std.specs.Prelude.{◌≡◌, ℕ, zero, suc, ℤ, Bool, true, List, [], ◌∷◌, ◌++◌, map}
 use Rattle.std.specs.List.{AllByRecursion}
 use Rattle.ipdl_base.specs.declared.kinds.Side.{Side}
@@ -21,12 +21,12 @@ seqs side (suc n) = seqs side n ++ seq_of side (suc n) ∷ []
 abbrev pub request_seq : told.Request → ℤ
 request_seq r = r.seq
 
--- a request is read as sync where its message is
+-- a request is read as sync exactly where its message is
 abbrev pub HasSyncOfRow : Schema → told.Request → Type 0
 HasSyncOfRow schema r = r.sync ≡ is_sync_number schema r.number
 
--- What was sent is what left, what waits in the outbox, and what was lost; only an end that is not open has lost
--- anything. The requests among it are numbered in order.
+-- What was sent is what has left, what waits in the outbox, and what was lost; only an end that is not open has lost
+-- anything. The requests among what was sent are numbered in order.
 pub record SentAccount (schema : Schema) (side : Side) (open_end : Bool) (outbox : List Message) (count : ℕ) (sent : List SentPacket) (left : List Note) : Type 0 where
   pub lost : List Note
   pub whole : told_notes side sent ≡ left ++ (notes schema (map message outbox) ++ lost)

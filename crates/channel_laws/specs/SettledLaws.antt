@@ -1,4 +1,4 @@
--- Promises of every legal history are settled as the law of settlings says.
+-- Promises of every legal history are settled as the law of settlings requires.
 use Rattle.std.specs.Prelude.{ℕ, List}
 use Rattle.ipdl_base.specs.declared.schema.Schema.{Schema}
 use Rattle.ipdl_base.specs.Sound.{IsSound}

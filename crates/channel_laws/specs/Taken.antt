@@ -5,7 +5,7 @@ use Rattle.ipdl_base.specs.declared.line.What.TheVariants as what
 use Rattle.history_reading.specs.EndReading.{EndReading}
 use Rattle.history_reading.specs.Prefix.{is_there, is_reply_there}
 
--- a line that takes or drops a request, or takes a reply, finds it there
+-- a line that takes or drops a request, or takes a reply, finds it among what has arrived
 abbrev pub there_line : EndReading → EndReading → What → Bool
 there_line own others (what.Take n route number values) = is_there own n
 there_line own others (what.Drop n route number id) = is_there own n

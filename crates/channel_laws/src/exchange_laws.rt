@@ -1,25 +1,27 @@
+//! Laws of what an end reads from its own lines about requests, replies and settlings.
 ghost use Rattle.channel_laws.specs.ExchangeLaws.{EndsReadExchanges, EndsTakeOnce};
 ghost use Rattle.channel_laws.specs.SettledLaws.{HistoriesObeySettled};
 ghost use Rattle.channel_laws.specs.Settlings.{EndsSettle};
 
-/// The law of exchanges: with its own lines an end keeps what has arrived, what it has promised, and that it answers each
-/// request once at most, whatever it is sent that is due.
+/// The law of exchanges: from its own lines an end reads what has arrived and what it has promised, and it
+/// answers each request at most once, if each packet that it receives is due.
 pub fn ends_read_exchanges()
     ensures { EndsReadExchanges }
 {}
 
-/// The law of takes: so an end takes nothing twice, and nothing that was not delivered.
+/// The law of takes: an end takes no request twice, no reply twice that was delivered once, and nothing that
+/// was not delivered.
 pub fn ends_take_once()
     ensures { EndsTakeOnce }
 {}
 
-/// The law of an end's settlings: it settles its own promises alone, each once, and rejects them in falls and closings for
-/// these, whatever the other end has said.
+/// The law of an end's settlings: an end settles only its own promises, each once, and rejects them in falls
+/// and closings with the matching reason, whatever the other end has sent.
 pub fn ends_settle()
     ensures { EndsSettle }
 {}
 
-/// The law of settlings: every legal history obeys it.
+/// The law of settlings in histories: every legal history obeys the law of settlings.
 pub fn histories_obey_settled()
     ensures { HistoriesObeySettled }
 {}

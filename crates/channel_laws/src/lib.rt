@@ -1,6 +1,8 @@
-//! What holds of every run of a channel, for every sound schema: no end waits for ever (docs/nesting.md); the reading of
-//! the lines is the world, and every legal history can be read and obeys the five laws (docs/laws.md); and what one end
-//! keeps of that with its own lines, whatever it is sent. No function that runs.
+//! What holds of every run of a channel, for every sound schema. No end waits for ever (docs/nesting.md). The
+//! reading
+//! of the lines is the world, and every legal history can be read and obeys the five laws (docs/laws.md). One
+//! end keeps
+//! its share of this with its own lines, whatever it receives. No function of this crate computes anything.
 #![tactic(auto)]
 
 mod actor_laws;
@@ -18,9 +20,10 @@ pub use bound_laws::histories_are_bounded;
 pub use exchange_laws::{ends_read_exchanges, ends_settle, ends_take_once, histories_obey_settled};
 pub use history_laws::{histories_obey_all_laws, histories_obey_prefix, histories_obey_waits};
 pub use laws::{
-    ends_are_told_in_runs, last_packets_fail_all_waits, nested_worlds_stay, nesting_in_every_run,
-    replies_find_their_waits, sound_schemas_have_sound_rows, still_ends_wait_for_nothing,
-    still_histories_leave_no_end_waiting, sync_replies_are_not_stray, waits_give_way,
+    ends_are_recorded_in_runs, last_packets_fail_all_waits, nested_worlds_stay,
+    nesting_in_every_run, replies_find_their_waits, sound_schemas_have_sound_rows,
+    still_ends_wait_for_nothing, still_histories_leave_no_end_waiting, sync_replies_are_not_stray,
+    waits_give_way,
 };
 pub use print_laws::lines_name_what_is_printed;
 pub use quiet_laws::quiet_worlds_are_still;

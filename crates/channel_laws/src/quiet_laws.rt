@@ -1,7 +1,8 @@
+//! The law of quiet worlds.
 ghost use Rattle.channel_laws.specs.Quiet.{QuietWorldsAreStill};
 
-/// The law of quiet worlds: where whoever chooses the steps of the ends leaves no work and has nothing to choose, and
-/// nothing is to be delivered, the world is still, and no end waits.
+/// The law of quiet worlds: if a choice of steps leaves no work undone, has no step left, and nothing can be
+/// delivered, then the world is still and no end waits.
 pub fn quiet_worlds_are_still()
     ensures { QuietWorldsAreStill }
 {}

@@ -1,6 +1,7 @@
+//! Laws of the reading of a history's lines.
 ghost use Rattle.channel_laws.specs.ReadingLaws.{HistoriesAreReadable, ReadingIsWorld};
 
-/// The law of the reading: that of the lines of every run is its world.
+/// The law of the reading: the reading of the lines of every run is its world.
 pub fn reading_is_world()
     ensures { ReadingIsWorld }
 {}

@@ -24,10 +24,11 @@ use Rattle.channel_model.specs.Deliveries.{unanswered}
 use Rattle.channel_model.specs.Ends.{End, Packet, message, mark, StackEntry, PromiseEntry}
 use Rattle.channel_model.specs.Events.{Answering, handled, kept}
 use Rattle.channel_model.specs.Falls as fall
-use Rattle.channel_model.specs.Numbers.{is_sync_row, makes_promise, is_constructor, top_id}
+use Rattle.ipdl_base.specs.Sides.{top_id}
+use Rattle.channel_model.specs.Numbers.{is_sync_row, makes_promise, is_constructor}
 use Rattle.channel_model.specs.Outputs.{Output, AnsweredRequest, request_answered, resolver_answered, reply_to, line_at}
 use Rattle.channel_model.specs.Parts
-use Rattle.channel_model.specs.Parts.{FirstPart, LaterPart, LaterParts, OwnParts, DeliveryPart, behind_outbox, reply_packet, reply_lines, reply_packets, end_behind, falling, fallen_end, outbox_after, request_packets, promise_for}
+use Rattle.channel_model.specs.Parts.{FirstPart, LaterPart, LaterParts, OwnParts, DeliveryPart, after_outbox, reply_packet, reply_lines, reply_packets, end_after, falling, fallen_end, outbox_after, request_packets, promise_for}
 use Rattle.channel_model.specs.Phases.{Phase, manager_of, fresh_of}
 use Rattle.channel_model.specs.Returns as return
 use Rattle.channel_model.specs.Sends as send
@@ -50,10 +51,11 @@ more_packets p = bit p.renames
 unsettled-is : (e : End) → unsettled e ≡ length e.actors + (length (pending_in e.promises) + waits e.stack)
 unsettled-is e = ap (λ (n : ℕ). length e.actors + (length (pending_in e.promises) + n)) (length-map (filter is_unanswered (send.frames_of e)) (λ frame. (head_of frame).seq))
 
-behind-length : (e : End) (packet : Packet) → length (behind_outbox e packet) ≡ length e.outbox + 1
-behind-length e packet = length-append (map message e.outbox) (packet ∷ []) ∙ ap (λ (n : ℕ). n + 1) (length-map e.outbox message)
+following-length : (e : End) (packet : Packet) → length (after_outbox e packet) ≡ length e.outbox + 1
+following-length e packet = length-append (map message e.outbox) (packet ∷ []) ∙ ap (λ (n : ℕ). n + 1) (length-map e.outbox message)
 
--- What a part prints and sends, with what its phase allows still, is within some lines and packets.
+-- What a part prints and sends, together with what its phase still allows, is within these numbers of lines and
+-- packets.
 record Within (n k : ℕ) (ws : List What) (ps : List Packet) (f : End) (q : Phase) : Type 0 where
   lines : length ws + (unsettled f + more_lines q) ≤ n
   packets : length ps + (length f.outbox + more_packets q) ≤ k
@@ -70,7 +72,7 @@ later-within : {p q : Phase} {e f : End} {ws : List What} {ps : List Packet} →
 later-within {p} {e} (Parts.unnames name may silent) tree = record { lines = omega arith; packets = omega arith }
 later-within {p} {e} (Parts.lets_go name x may is open_is) tree =
     let b : bit p.renames ≡ 1 = ap bit may in
-    record { lines = omega (arith, b); packets = omega (arith, b, behind-length e (reply_packet (resolver_answered x) (answer.Fault reason.ResolverDestroyed))) }
+    record { lines = omega (arith, b); packets = omega (arith, b, following-length e (reply_packet (resolver_answered x) (answer.Fault reason.ResolverDestroyed))) }
 later-within {p} {e} (Parts.names more actors) tree = record { lines = omega arith; packets = omega arith }
 later-within {p} {e} (Parts.releases seq closed) tree =
     let f : End = record e { stack = answering.released seq e.stack } in
@@ -133,7 +135,7 @@ waiting-count false row m stack = omega arith
 
 request-count : (lazy : Bool) (e : End) (m : Message) → length (request_packets lazy e m) + length (outbox_after lazy m e.outbox) ≤ length e.outbox + 1
 request-count true e m = omega (arith, length-append e.outbox (m ∷ []))
-request-count false e m = omega (arith, behind-length e (message m))
+request-count false e m = omega (arith, following-length e (message m))
 
 -- Answers
 
@@ -141,13 +143,13 @@ lines-count : (b : Bool) (q : AnsweredRequest) (a : Answer) → length (reply_li
 lines-count true q a = omega arith
 lines-count false q a = omega arith
 
-packets-count : (b : Bool) (e : End) (q : AnsweredRequest) (a : Answer) (f : End) → f.outbox ≡ e.outbox → length (reply_packets b e q a) + length (end_behind b f).outbox ≤ length e.outbox + 1
-packets-count true e q a f same = omega (arith, behind-length e (reply_packet q a))
+packets-count : (b : Bool) (e : End) (q : AnsweredRequest) (a : Answer) (f : End) → f.outbox ≡ e.outbox → length (reply_packets b e q a) + length (end_after b f).outbox ≤ length e.outbox + 1
+packets-count true e q a f same = omega (arith, following-length e (reply_packet q a))
 packets-count false e q a f same = let k : length f.outbox ≡ length e.outbox = ap length same in omega arith
 
-behind-unsettled : (b : Bool) (e : End) → unsettled (end_behind b e) ≡ unsettled e
-behind-unsettled true e = refl
-behind-unsettled false e = refl
+following-unsettled : (b : Bool) (e : End) → unsettled (end_after b e) ≡ unsettled e
+following-unsettled true e = refl
+following-unsettled false e = refl
 
 used-count : (by : Answering) (e : End) → unsettled (answering.without_resolver by e) ≡ unsettled e
 used-count (handled seq) e =
@@ -188,16 +190,16 @@ module _ (schema : Schema) (protocol : ℕ) (e : End) where
         lines = omega (arith, unsettled-is e, unsettled-is f, promised-count (makes_promise row) e.promises (promise_for m), waiting-count (is_sync_row row) row m e.stack, sync-or-promise row, fresh-one row m);
         packets = omega (arith, request-count row.lazy e m);
       }
-  first-within (Parts.answers by vs r row found may ok is) = record { lines = omega (arith, used-count by e); packets = omega (arith, behind-length e (message (reply_to (resolver_answered r) (answering.answer_body vs)))) }
-  first-within (Parts.closes open_is none) = record { lines = omega arith; packets = omega (arith, behind-length e (message goodbye)) }
-  first-within (Parts.dies open_is) = record { lines = omega arith; packets = omega (arith, behind-length e mark) }
+  first-within (Parts.answers by vs r row found may ok is) = record { lines = omega (arith, used-count by e); packets = omega (arith, following-length e (message (reply_to (resolver_answered r) (answering.answer_body vs)))) }
+  first-within (Parts.closes open_is none) = record { lines = omega arith; packets = omega (arith, following-length e (message goodbye)) }
+  first-within (Parts.dies open_is) = record { lines = omega arith; packets = omega (arith, following-length e mark) }
   first-within (Parts.dies_silent open_is alive) = record { lines = omega arith; packets = omega arith }
   first-within (Parts.takes m sync level row vs next body found stays) = record { lines = omega (arith, fresh-one row m); packets = omega arith }
   first-within (Parts.drops m sync level row vs id replies next body found gone is) =
       let left : End = Parts.left_end e in
       let q : AnsweredRequest = request_answered m in
       let a : Answer = answer.Fault reason.ActorDestroyed in
-      record { lines = omega (arith, behind-unsettled replies left, lines-count replies q a); packets = omega (arith, packets-count replies e q a left refl) }
+      record { lines = omega (arith, following-unsettled replies left, lines-count replies q a); packets = omega (arith, packets-count replies e q a left refl) }
   first-within (Parts.drops_unknown m sync level vs next body none) = record { lines = omega arith; packets = omega arith }
   first-within (Parts.takes_reply m sync level a next body late) = record { lines = omega arith; packets = omega arith }
   first-within (Parts.settles m sync level row a next body found is) = record { lines = omega (arith, settled-count m.seq (Parts.reply_outcome schema e row a) e.promises); packets = omega arith }
@@ -208,13 +210,13 @@ module _ (schema : Schema) (protocol : ℕ) (e : End) where
       let a : Answer = return.return_answer schema e row entry vs in
       let r : AnsweredRequest = resolver_answered (answering.resolver_in entry) in
       let c : Answer = answer.Fault reason.ResolverDestroyed in
-      let told_end : End = end_behind told off in
+      let told_end : End = end_after told off in
       record {
-        lines = omega (arith, length-append (reply_lines told q a) (reply_lines lost r c), lines-count told q a, lines-count lost r c, behind-unsettled lost told_end, behind-unsettled told off, unsettled-is e, unsettled-is off, dropped-waits e.stack);
-        packets = omega (arith, length-append (reply_packets told e q a) (reply_packets lost (end_behind told e) r c), packets-count told e q a e refl, packets-count lost (end_behind told e) r c told_end (told-outbox told));
+        lines = omega (arith, length-append (reply_lines told q a) (reply_lines lost r c), lines-count told q a, lines-count lost r c, following-unsettled lost told_end, following-unsettled told off, unsettled-is e, unsettled-is off, dropped-waits e.stack);
+        packets = omega (arith, length-append (reply_packets told e q a) (reply_packets lost (end_after told e) r c), packets-count told e q a e refl, packets-count lost (end_after told e) r c told_end (told-outbox told));
       }
     where
-      told-outbox : (b : Bool) → (end_behind b (record e { stack = drop 1 e.stack })).outbox ≡ (end_behind b e).outbox
+      told-outbox : (b : Bool) → (end_after b (record e { stack = drop 1 e.stack })).outbox ≡ (end_after b e).outbox
       told-outbox true = refl
       told-outbox false = refl
   first-within (Parts.resumes wait row on_top found) = record { lines = omega (arith, unsettled-is e, unsettled-is (record e { stack = drop 1 e.stack }), dropped-waits e.stack); packets = omega arith }
@@ -238,7 +240,7 @@ delivery-within {e} (Parts.replaces m row vs old sync level replies body found r
     let f : End = delivery.counted row (delivery.item_of row m) e in
     let q : AnsweredRequest = request_answered old in
     let a : Answer = answer.Fault reason.ResolverDestroyed in
-    record { lines = omega (arith, behind-unsettled replies f, lines-count replies q a); packets = omega (arith, packets-count replies e q a f refl) }
+    record { lines = omega (arith, following-unsettled replies f, lines-count replies q a); packets = omega (arith, packets-count replies e q a f refl) }
 delivery-within {e} (Parts.gets_answer m row a body found sync) = record { lines = omega (arith, unsettled-is e, unsettled-is (delivery.answers_wait a e), answered-waits a e.stack); packets = omega arith }
 delivery-within (Parts.gets_reply m row a body found async) = record { lines = omega arith; packets = omega arith }
 delivery-within {e} (Parts.drains packet is) =

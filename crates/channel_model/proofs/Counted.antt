@@ -36,7 +36,7 @@ without-shorter i (a ∷ actors) = elim (same_or_other a.id i) [
   | inr n ↦ (let k : length (without i (a ∷ actors)) ≡ length (a ∷ without i actors) = ap length (without-other i a actors n) in omega (arith, without-shorter i actors))
 ]
 
--- who lives is one less without it
+-- without it, one fewer actor lives
 without-one : (i : ℤ) (actors : List Actor) → Has i actors → length (without i actors) + 1 ≤ length actors
 without-one i [] h = absurd h
 without-one i (a ∷ actors) (inl e) = let k : length (without i (a ∷ actors)) ≡ length (without i actors) = ap length (without-same i a actors e) in omega (arith, without-shorter i actors)
@@ -53,13 +53,13 @@ falls-count id actors (a ∷ given) left f =
     let k : length f.0 ≡ length (without a.id actors) = ap length next.left in
     omega (arith, without-one a.id actors lived, falls-count id f.0 given left f.2)
 
--- those who fall and the others are no more than all
+-- the actors that fall and the others are together no more than all
 fallen-count : (id : ℤ) (actors : List Actor) → IsTree actors → length (post_order id actors) + length (others (post_order id actors) actors) ≤ length actors
 fallen-count id actors t = falls-count id actors (post_order id actors) (others (post_order id actors) actors) ((gives_subtree id actors (post_order id actors) (others (post_order id actors) actors) t).1 (refl, refl))
 
 -- Promises
 
--- one where it holds
+-- 1 for true, 0 for false
 abbrev pub bit : Bool → ℕ
 bit b = if b then 1 else 0
 
@@ -67,7 +67,7 @@ length-if : {A : Type 0} (b : Bool) (x : A) (xs : List A) → length (cond b (x 
 length-if true x xs = omega arith
 length-if false x xs = omega arith
 
--- how many promises are pending and pass
+-- the number of promises that are pending and pass
 abbrev count : (Promise → Bool) → List PromiseEntry → ℕ
 count test promises = length (filter (passes test) promises)
 
@@ -77,7 +77,7 @@ count-cons test x xs = length-if (passes test x) x (filter (passes test) xs)
 pending-cons : (x : PromiseEntry) (xs : List PromiseEntry) → length (pending_in (x ∷ xs)) ≡ bit (is_pending x.promise) + length (pending_in xs)
 pending-cons x xs = length-if (is_pending x.promise) x (pending_in xs)
 
--- those that pass are rejected, the others still pend
+-- those that pass are rejected, the others are still pending
 rejected-count : (test : Promise → Bool) (why : Reason) (xs : List PromiseEntry) → length (pending_in (rejected test why xs)) ≤ count (λ p. not (test p)) xs
 rejected-count test why [] = omega arith
 rejected-count test why (x ∷ xs) =
@@ -120,7 +120,7 @@ abandoned-count promises = omega (arith, rejections-count (λ p. true) ChannelCl
 
 -- Actors that fall with their promises
 
--- of one promise: it is of the actor, or of none of it and the rest, only if it is of none of the rest
+-- of one promise: it is of the actor, or of neither the actor nor the rest, only if it is of none of the rest
 one-promise : (a : Actor) (rest : List Actor) (x : PromiseEntry) → lives a.id rest ≡ false → (x.promise.actor ≡ a.id) ⊎ (x.promise.actor ≢ a.id)
     → bit (passes (is_pending_of a.id) x) + bit (passes (λ p. not (lives p.actor (a ∷ rest))) x) ≤ bit (passes (λ p. not (lives p.actor rest)) x)
 one-promise a rest x free (inl e) =
@@ -153,7 +153,7 @@ one-actor a rest [] free = omega arith
 one-actor a rest (x ∷ xs) free =
     omega (arith, count-cons (is_pending_of a.id) x xs, count-cons (λ p. not (lives p.actor (a ∷ rest))) x xs, count-cons (λ p. not (lives p.actor rest)) x xs, one-actor a rest xs free, one-promise a rest x free (same_or_other x.promise.actor a.id))
 
--- the lines of those who fall, and the promises of none of them
+-- the lines of the actors that fall, where no promise is of one of them
 falls-lines : (why : ℤ → Destroy) (promises : List PromiseEntry) (given : List Actor) → EachOnce given
     → length (flat_map (fall_lines why promises) given) + count (λ p. not (lives p.actor given)) promises ≤ length given + length (pending_in promises)
 falls-lines why promises [] once = let k = all-count (λ p. true) promises in omega arith
@@ -164,7 +164,8 @@ falls-lines why promises (a ∷ given) once =
     let l : length (fall_lines why promises a) ≡ length own + 1 = length-append own (what.Fall a.id (why a.id) ∷ []) in
     omega (arith, k, l, rejections-count (is_pending_of a.id) ActorDestroyed promises, one-actor a given promises once.0, falls-lines why promises given once.1)
 
--- a subtree falls: its lines, those who are left and the promises that still pend are no more than what there was
+-- a subtree falls: its lines, the actors that are left and the promises that are still pending are no more than what
+-- there was
 pub falls-balance : (id : ℤ) (why : ℤ → Destroy) (actors : List Actor) (promises : List PromiseEntry) → IsTree actors
     → length (flat_map (fall_lines why promises) (post_order id actors)) + (length (others (post_order id actors) actors) + length (pending_in (rejected (λ p. lives p.actor (post_order id actors)) ActorDestroyed promises))) ≤ length actors + length (pending_in promises)
 falls-balance id why actors promises t =
@@ -175,7 +176,7 @@ falls-balance id why actors promises t =
 abbrev frames : List StackEntry → List StackFrame
 frames stack = map (λ (entry : StackEntry). entry.frame) stack
 
--- how many waits have no answer
+-- the number of unanswered waits
 abbrev pub waits : List StackEntry → ℕ
 waits stack = length (filter is_unanswered (frames stack))
 

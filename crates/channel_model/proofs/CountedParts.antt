@@ -12,13 +12,13 @@ use Rattle.channel_model.specs.Ends.{End, Packet}
 use Rattle.channel_model.specs.Events.{Answering, handled, kept}
 use Rattle.channel_model.specs.Numbers.{counting}
 use Rattle.channel_model.specs.Parts
-use Rattle.channel_model.specs.Parts.{FirstPart, LaterPart, LaterParts, OwnParts, DeliveryPart, end_behind, outbox_after}
+use Rattle.channel_model.specs.Parts.{FirstPart, LaterPart, LaterParts, OwnParts, DeliveryPart, end_after, outbox_after}
 use Rattle.channel_model.specs.Phases.{Phase}
 use Rattle.channel_model.specs.Sends.{request_of}
 use Rattle.channel_model.specs.StepLaws.{CountsGrow}
 use Rattle.channel_model.proofs.StepParts.{by-parts}
 
--- No request is counted, and no more wait in the outbox.
+-- No request is counted, and the outbox does not grow.
 pub record Keeps (e f : End) : Type 0 where
   pub sent : f.sent ≡ e.sent
   delivered : f.delivered ≡ e.delivered
@@ -42,9 +42,9 @@ counted-kept e f k = record {
   constructors = omega (arith, k.sent, k.constructors);
 }
 
-behind-keeps : (b : Bool) (e : End) → Keeps e (end_behind b e)
-behind-keeps true e = keeps-none _ _ refl refl refl refl
-behind-keeps false e = keeps-all _ _ refl refl refl refl
+following-keeps : (b : Bool) (e : End) → Keeps e (end_after b e)
+following-keeps true e = keeps-none _ _ refl refl refl refl
+following-keeps false e = keeps-all _ _ refl refl refl refl
 
 used-keeps : (by : Answering) (e : End) → Keeps e (record (without_resolver by e) { outbox = [] })
 used-keeps (handled seq) e = keeps-none _ _ refl refl refl refl
@@ -90,14 +90,14 @@ first-counted (Parts.closes open_is none) = counted-kept _ _ (keeps-none _ _ ref
 first-counted (Parts.dies open_is) = counted-kept _ _ (keeps-none _ _ refl refl refl refl)
 first-counted (Parts.dies_silent open_is alive) = counted-kept _ _ (keeps-all _ _ refl refl refl refl)
 first-counted (Parts.takes m sync level row vs next body found stays) = counted-kept _ _ (keeps-all _ _ refl refl refl refl)
-first-counted {e} (Parts.drops m sync level row vs id replies next body found gone is) = counted-kept _ _ (keeps-both _ _ _ (keeps-all _ (Parts.left_end e) refl refl refl refl) (behind-keeps replies (Parts.left_end e)))
+first-counted {e} (Parts.drops m sync level row vs id replies next body found gone is) = counted-kept _ _ (keeps-both _ _ _ (keeps-all _ (Parts.left_end e) refl refl refl refl) (following-keeps replies (Parts.left_end e)))
 first-counted (Parts.drops_unknown m sync level vs next body none) = counted-kept _ _ (keeps-all _ _ refl refl refl refl)
 first-counted (Parts.takes_reply m sync level a next body late) = counted-kept _ _ (keeps-all _ _ refl refl refl refl)
 first-counted (Parts.settles m sync level row a next body found is) = counted-kept _ _ (keeps-all _ _ refl refl refl refl)
 first-counted (Parts.shuts last next is) = counted-kept _ _ (keeps-all _ _ refl refl refl refl)
 first-counted {e} (Parts.returns entry row vs told lost returns t l) =
     let off : End = record e { stack = drop 1 e.stack } in
-    counted-kept _ _ (keeps-both _ _ _ (keeps-all e off refl refl refl refl) (keeps-both _ _ _ (behind-keeps told off) (behind-keeps lost (end_behind told off))))
+    counted-kept _ _ (keeps-both _ _ _ (keeps-all e off refl refl refl refl) (keeps-both _ _ _ (following-keeps told off) (following-keeps lost (end_after told off))))
 first-counted (Parts.resumes wait row on_top found) = counted-kept _ _ (keeps-all _ _ refl refl refl refl)
 
 own-counted : {schema : Schema} {p : Phase} {e f : End} {ws : List What} {ps : List Packet} → OwnParts schema e ws ps f p → HasCounted e f

@@ -22,7 +22,7 @@ use Rattle.channel_model.specs.Ends.{Packet, message, mark}
 use Rattle.channel_model.specs.Numbers.{is_sync_row, makes_promise}
 use Rattle.channel_model.specs.Outputs.{Output, Change, ◌▷◌, unchanged, when, on_end, line, put, is_open, AnsweredRequest, answered, request_answered, answer_line, body_of, line_at}
 use Rattle.channel_model.specs.Parts
-use Rattle.channel_model.specs.Parts.{DeliveryPart, IsNoMessage, behind_outbox, reply_packet, reply_lines, reply_packets, end_behind, farewell_item, farewell_line, unknown_line}
+use Rattle.channel_model.specs.Parts.{DeliveryPart, IsNoMessage, after_outbox, reply_packet, reply_lines, reply_packets, end_after, farewell_item, farewell_line, unknown_line}
 use Rattle.channel_model.specs.Phases.{Phase, quiet, ending}
 use Rattle.channel_model.specs.States.{is_farewell, is_goodbye}
 use Rattle.channel_model.proofs.Made.{Makes, made, made-as}
@@ -45,7 +45,7 @@ module _ (schema : Schema) where
   replaces-made : (m : Message) (row : MessageRow) (vs : Values) (old : Message) (sync : Bool) (level : Level) (b : Bool) (o : Output) → m.body ≡ Request vs → message_of schema m.number ≡ Some row → replaced row.compress (delivery.item_of row m) o.end.arrived ≡ Some (item.Message old sync level) → b ≡ makes_promise row
       → Makes (DeliveryPart schema (message m) o.end) (replacing m row old b) o quiet
   replaces-made m row vs old sync level true o body found rep is =
-      made (DeliveryPart schema (message m) o.end) (replacing m row old true) o quiet (what.DeliverRequest m.seq ∷ what.Replaced old.seq ∷ what.AnswerFault old.seq ResolverDestroyed ∷ []) (behind_outbox o.end (reply_packet (request_answered old) (answer.Fault ResolverDestroyed)))
+      made (DeliveryPart schema (message m) o.end) (replacing m row old true) o quiet (what.DeliverRequest m.seq ∷ what.Replaced old.seq ∷ what.AnswerFault old.seq ResolverDestroyed ∷ []) (after_outbox o.end (reply_packet (request_answered old) (answer.Fault ResolverDestroyed)))
       (Parts.replaces m row vs old sync level true body found rep is)
       (append_assoc (o.lines ++ _ ∷ []) (_ ∷ []) (_ ∷ []) ∙ append_assoc o.lines (_ ∷ []) (_ ∷ _ ∷ [])) (put-packets o.packets o.end (reply_packet (request_answered old) (answer.Fault ResolverDestroyed))) refl
   replaces-made m row vs old sync level false o body found rep is =
@@ -78,7 +78,7 @@ module _ (schema : Schema) where
   reply_row-made m row a false o body found is =
       made (DeliveryPart schema (message m) o.end) (line (what.DeliverReply m.seq) ▷ on_end (delivery.arrives (delivery.item_of row m))) o quiet (what.DeliverReply m.seq ∷ []) [] (Parts.gets_reply m row a body found is) refl (sym (append-nil o.packets)) refl
 
-  -- a message that the schema has no row for
+  -- a message that has no row in the schema
   passes_by-made : (m : Message) (body : Body) (o : Output) → m.body ≡ body → is_goodbye body ≡ false → message_of schema m.number ≡ None
       → Makes (DeliveryPart schema (message m) o.end) (line (unknown_line m.seq body)) o quiet
   passes_by-made m body o is ordinary none =

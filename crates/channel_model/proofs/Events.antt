@@ -27,10 +27,11 @@ use Rattle.channel_model.specs.Ends.{End, Packet, message, mark, PromiseEntry}
 use Rattle.channel_model.specs.EventLines.{IsEffectOf, IsEventWithEffects}
 use Rattle.channel_model.specs.Events.{Answering, handled, kept}
 use Rattle.channel_model.specs.Falls as fall
-use Rattle.channel_model.specs.Numbers.{is_sync_row, top_id}
+use Rattle.ipdl_base.specs.Sides.{top_id}
+use Rattle.channel_model.specs.Numbers.{is_sync_row}
 use Rattle.channel_model.specs.Outputs.{Output, AnsweredRequest, request_answered, resolver_answered, line_at}
 use Rattle.channel_model.specs.Parts
-use Rattle.channel_model.specs.Parts.{FirstPart, LaterPart, LaterParts, OwnParts, DeliveryPart, IsRefusal, IsRenaming, reply_lines, end_behind, falling, shut_line, farewell_line, unknown_line}
+use Rattle.channel_model.specs.Parts.{FirstPart, LaterPart, LaterParts, OwnParts, DeliveryPart, IsRefusal, IsRenaming, reply_lines, end_after, falling, shut_line, farewell_line, unknown_line}
 use Rattle.channel_model.specs.Phases.{Phase}
 use Rattle.channel_model.specs.Returns as return
 use Rattle.channel_model.specs.Sends as send
@@ -127,9 +128,9 @@ record Prints (P : List What → Type 0) (e f : End) (ws : List What) : Type 0 w
   lines : P ws
   side : f.side ≡ e.side
 
-behind-side : (b : Bool) (e : End) → (end_behind b e).side ≡ e.side
-behind-side true e = refl
-behind-side false e = refl
+following-side : (b : Bool) (e : End) → (end_after b e).side ≡ e.side
+following-side true e = refl
+following-side false e = refl
 
 used-side : (by : Answering) (e : End) → (answering.without_resolver by e).side ≡ e.side
 used-side (handled seq) e = refl
@@ -145,7 +146,7 @@ first-prints (Parts.closes open_is none) = record { lines = (refl, tt); side = r
 first-prints (Parts.dies open_is) = record { lines = (refl, tt); side = refl }
 first-prints (Parts.dies_silent open_is alive) = record { lines = (refl, tt); side = refl }
 first-prints (Parts.takes m sync level row vs next body found stays) = record { lines = (refl, tt); side = refl }
-first-prints {e} (Parts.drops m sync level row vs id replies next body found gone is) = record { lines = (refl, reply-effects replies (request_answered m) (answer.Fault reason.ActorDestroyed)); side = behind-side replies (Parts.left_end e) }
+first-prints {e} (Parts.drops m sync level row vs id replies next body found gone is) = record { lines = (refl, reply-effects replies (request_answered m) (answer.Fault reason.ActorDestroyed)); side = following-side replies (Parts.left_end e) }
 first-prints (Parts.drops_unknown m sync level vs next body none) = record { lines = (refl, tt); side = refl }
 first-prints (Parts.takes_reply m sync level a next body late) = record { lines = (refl, tt); side = refl }
 first-prints {schema} {e} (Parts.settles m sync level row a next body found is) = record { lines = (refl, (settle-effect m.seq (Parts.reply_outcome schema e row a), tt)); side = refl }
@@ -158,7 +159,7 @@ first-prints {schema} {e} (Parts.returns entry row vs told lost returns t l) =
         all-append IsEffect (reply_lines told (return.dispatch_answered entry) (return.return_answer schema e row entry vs)) (reply_lines lost (resolver_answered (answering.resolver_in entry)) (answer.Fault reason.ResolverDestroyed))
             (reply-effects told (return.dispatch_answered entry) (return.return_answer schema e row entry vs)) (reply-effects lost (resolver_answered (answering.resolver_in entry)) (answer.Fault reason.ResolverDestroyed)),
       );
-      side = behind-side lost (end_behind told off) ∙ behind-side told off;
+      side = following-side lost (end_after told off) ∙ following-side told off;
     }
 first-prints {schema} {e} (Parts.resumes wait row on_top found) = record { lines = (resume-event wait.seq (received schema e.actors row wait.given), tt); side = refl }
 
@@ -187,7 +188,7 @@ own-prints (Parts.begun {ws} {vs} first rest over) =
 
 delivery-prints : {schema : Schema} {packet : Packet} {p : Phase} {e f : End} {ws : List What} {ps : List Packet} → DeliveryPart schema packet e ws ps f p → Prints BeginsEvent e f ws
 delivery-prints (Parts.gets_request m row vs body found none) = record { lines = (refl, tt); side = refl }
-delivery-prints {e} (Parts.replaces m row vs old sync level replies body found rep is) = record { lines = (refl, (refl, reply-effects replies (request_answered old) (answer.Fault reason.ResolverDestroyed))); side = behind-side replies (delivery.counted row (delivery.item_of row m) e) }
+delivery-prints {e} (Parts.replaces m row vs old sync level replies body found rep is) = record { lines = (refl, (refl, reply-effects replies (request_answered old) (answer.Fault reason.ResolverDestroyed))); side = following-side replies (delivery.counted row (delivery.item_of row m) e) }
 delivery-prints (Parts.gets_answer m row a body found sync) = record { lines = (refl, tt); side = refl }
 delivery-prints (Parts.gets_reply m row a body found async) = record { lines = (refl, tt); side = refl }
 delivery-prints {e} (Parts.drains packet is) = record { lines = (farewell-event packet, effects-map what.Fails (delivery.unanswered e) (λ n. refl)); side = refl }

@@ -20,7 +20,7 @@ use Rattle.nesting_core.specs.Frames.{head_of, is_dispatch, is_unanswered}
 use Rattle.nesting_core.specs.Top.{top_of}
 use Rattle.pending_queue.specs.declared.item.Item.{Item}
 use Rattle.pending_queue.specs.Compression.{are_alike, latest, replaced, staying}
-use Rattle.pending_queue.specs.Holding.{is_free, without_first}
+use Rattle.pending_queue.specs.DeferralContext.{is_free, without_first}
 use Rattle.promise_table.specs.declared.promise.Outcome.{Outcome}
 use Rattle.promise_table.specs.declared.promise.Promise.{Promise}
 use Rattle.promise_table.specs.Promises.{has_number, is_pending}
@@ -32,7 +32,7 @@ use Rattle.channel_model.specs.Falls as fall
 use Rattle.channel_model.specs.Fitting.{IsRequestKept, FitsItem, FitsAnswer, FitsEntry, FitsPromised, FitsPromise, FitsResolver, FitsContent, FitsNaming, HasLivingId, IsFitting, FitsPacket}
 use Rattle.channel_model.specs.Names.{has_name, held_by_name, without_name, without_resolvers, is_actor}
 use Rattle.channel_model.specs.Numbers.{is_sync_row, makes_promise}
-use Rattle.channel_model.specs.Parts.{HoldsActor, behind_outbox, end_behind}
+use Rattle.channel_model.specs.Parts.{HoldsActor, after_outbox, end_after}
 use Rattle.channel_model.specs.Sends.{frames_of}
 use Rattle.channel_model.specs.Takes as take
 use Rattle.channel_model.proofs.Counted.{kept-frames}
@@ -57,7 +57,7 @@ all-at P (y ∷ ys) zero x h e = subst P (same_Some y x e) h.0
 all-at P (y ∷ ys) (suc i) x h e = all-at P ys i x h.1 e
 
 -- what is taken next is the oldest item that is not deferred
-pub taken-first : (e : End) (x : Item) → take.taken_next e ≡ Some x → find (is_free (take.holding_of e)) e.arrived ≡ Some x
+pub taken-first : (e : End) (x : Item) → take.taken_next e ≡ Some x → find (is_free (take.deferral_context_of e)) e.arrived ≡ Some x
 taken-first e x next = first (take.takes_in_state e.state && take.takes_under (top_of (frames_of e))) next
   where
     first : (b : Bool) → cond b (take.first_free e) None ≡ Some x → take.first_free e ≡ Some x
@@ -91,17 +91,17 @@ module _ (schema : Schema) where
   pub fits-delivered : (e : End) (delivered constructors : ℕ) → IsFitting schema e → IsFitting schema (record e { delivered = delivered; constructors_delivered = constructors })
   fits-delivered e delivered constructors h = record { actors = h.actors; arrived = h.arrived; stack = h.stack; promises = h.promises; names = h.names; outbox = h.outbox }
 
-  pub fits-behind : (b : Bool) (e : End) → IsFitting schema e → IsFitting schema (end_behind b e)
-  fits-behind true e h = fits-outbox e h
-  fits-behind false e h = h
+  pub fits-following : (b : Bool) (e : End) → IsFitting schema e → IsFitting schema (end_after b e)
+  fits-following true e h = fits-outbox e h
+  fits-following false e h = h
 
   -- Packets
 
   pub outbox-packets : (ms : List Message) → AllByRecursion (Fits schema) ms → AllByRecursion (FitsPacket schema) (map message ms)
   outbox-packets ms h = all-mapped (Fits schema) (FitsPacket schema) message ms (λ m k. k) h
 
-  pub behind-packets : (e : End) (packet : Packet) → FitsPacket schema packet → IsFitting schema e → AllByRecursion (FitsPacket schema) (behind_outbox e packet)
-  behind-packets e packet k h = all-append (FitsPacket schema) (map message e.outbox) (packet ∷ []) (outbox-packets e.outbox h.outbox) (k, tt)
+  pub following-packets : (e : End) (packet : Packet) → FitsPacket schema packet → IsFitting schema e → AllByRecursion (FitsPacket schema) (after_outbox e packet)
+  following-packets e packet k h = all-append (FitsPacket schema) (map message e.outbox) (packet ∷ []) (outbox-packets e.outbox h.outbox) (k, tt)
 
   -- Entries of stacks
 
@@ -123,11 +123,11 @@ module _ (schema : Schema) where
   pub failed-stack : (stack : List StackEntry) → AllByRecursion (FitsEntry schema) stack → AllByRecursion (FitsEntry schema) (map delivery.with_failed_wait stack)
   failed-stack stack h = all-mapped (FitsEntry schema) (FitsEntry schema) delivery.with_failed_wait stack failed-entry h
 
-  -- what the answer to the innermost wait without one has to be
+  -- the condition on the answer to the innermost unanswered wait
   abbrev pub AnswerFits : Answer → (StackEntry → Bool) → Type 0
   AnswerFits a test = (entry : StackEntry) (h : FitsEntry schema entry) → is_sync_row h.row ≡ true → test entry ≡ true → FitsAnswer schema h.row a
 
-  -- the innermost wait without an answer gets one that fits
+  -- the innermost unanswered wait gets an answer that fits
   pub answered-stack : (a : Answer) (test : StackEntry → Bool) (stack : List StackEntry) → AnswerFits a test → AllByRecursion (FitsEntry schema) stack → option_map_or test (find (λ (entry : StackEntry). is_unanswered entry.frame) stack) false ≡ true
       → AllByRecursion (FitsEntry schema) (delivery.with_frames (with_answer a (map (λ (entry : StackEntry). entry.frame) stack)) stack)
   answered-stack a test [] fits h e = tt
@@ -219,10 +219,10 @@ module _ (schema : Schema) where
 
   -- what is taken next is one of what has arrived
   pub taken-fits : (e : End) (x : Item) → IsFitting schema e → take.taken_next e ≡ Some x → FitsItem schema x
-  taken-fits e x h next = (found-in (FitsItem schema) (is_free (take.holding_of e)) e.arrived x h.arrived (taken-first e x next)).0
+  taken-fits e x h next = (found-in (FitsItem schema) (is_free (take.deferral_context_of e)) e.arrived x h.arrived (taken-first e x next)).0
 
-  pub left-items : (e : End) → IsFitting schema e → AllByRecursion (FitsItem schema) (without_first (is_free (take.holding_of e)) e.arrived)
-  left-items e h = all-sublist (FitsItem schema) (without_first (is_free (take.holding_of e)) e.arrived) e.arrived (without_first-sublist (is_free (take.holding_of e)) e.arrived) h.arrived
+  pub left-items : (e : End) → IsFitting schema e → AllByRecursion (FitsItem schema) (without_first (is_free (take.deferral_context_of e)) e.arrived)
+  left-items e h = all-sublist (FitsItem schema) (without_first (is_free (take.deferral_context_of e)) e.arrived) e.arrived (without_first-sublist (is_free (take.deferral_context_of e)) e.arrived) h.arrived
 
   pub staying-items : (e : End) (c : Compress) (new : Item) → FitsItem schema new → IsFitting schema e → AllByRecursion (FitsItem schema) (staying c new e.arrived ++ new ∷ [])
   staying-items e c new k h = all-append (FitsItem schema) (staying c new e.arrived) (new ∷ []) (all-sublist (FitsItem schema) (staying c new e.arrived) e.arrived (staying-sublist c new e.arrived) h.arrived) (k, tt)
@@ -230,7 +230,7 @@ module _ (schema : Schema) where
   pub last-item : (e : End) (new : Item) → FitsItem schema new → IsFitting schema e → AllByRecursion (FitsItem schema) (e.arrived ++ new ∷ [])
   last-item e new k h = all-append (FitsItem schema) e.arrived (new ∷ []) h.arrived (k, tt)
 
--- the latest that passes is one of the items, and passes
+-- the latest item that passes is one of the items, and passes
 latest-one : {A : Type 0} (P : A → Type 0) (test : A → Bool) (y x : A) (rest : Option A) (later b : Bool) → P y → (rest ≡ Some x → P x × (test x ≡ true)) → test y ≡ b → cond later rest (cond b (Some y) None) ≡ Some x → P x × (test x ≡ true)
 latest-one P test y x rest true b h k is e = k e
 latest-one P test y x rest false true h k is e = let same : y ≡ x = same_Some y x e in (subst P same h, ap test (sym same) ∙ is)
@@ -240,7 +240,7 @@ latest-in : (P : Item → Type 0) (test : Item → Bool) (items : List Item) (x 
 latest-in P test [] x h e = cc
 latest-in P test (y ∷ ys) x h e = latest-one P test y x (latest test ys) (list_any test ys) (test y) h.0 (λ k. latest-in P test ys x h.1 k) refl e
 
--- what is replaced is one of the items, and is like the new one
+-- an item that is replaced is one of the items, and is like the new one
 pub replaced-in : (P : Item → Type 0) (c : Compress) (new : Item) (items : List Item) (x : Item) → AllByRecursion P items → replaced c new items ≡ Some x → P x × (are_alike new x ≡ true)
 replaced-in P compress.Plain new items x h e = cc
 replaced-in P compress.All new items x h e = latest-in P (are_alike new) items x h e

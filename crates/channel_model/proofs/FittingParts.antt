@@ -46,7 +46,7 @@ use Rattle.channel_model.specs.Names.{held_by_name, without_name}
 use Rattle.channel_model.specs.Numbers.{is_sync_row, makes_promise, request_row, counting}
 use Rattle.channel_model.specs.Outputs.{Output, AnsweredRequest, request_answered, resolver_answered, reply_to, body_of, is_open}
 use Rattle.channel_model.specs.Parts
-use Rattle.channel_model.specs.Parts.{FirstPart, LaterPart, LaterParts, OwnParts, DeliveryPart, IsReturn, reply_packets, end_behind, left_end, falling, owes_reply, farewell_item}
+use Rattle.channel_model.specs.Parts.{FirstPart, LaterPart, LaterParts, OwnParts, DeliveryPart, IsReturn, reply_packets, end_after, left_end, falling, owes_reply, farewell_item}
 use Rattle.channel_model.specs.Phases.{Phase}
 use Rattle.channel_model.specs.Refusals.{packet_refusal, is_replied_to, is_waited_for, is_promised, actor_refusal, reply_refusal, body_refusal, stray}
 use Rattle.channel_model.specs.Returns as return
@@ -57,7 +57,7 @@ use Rattle.channel_model.specs.Takes as take
 use Rattle.channel_model.specs.Typed.{have_types}
 use Rattle.channel_model.specs.ValueActors.{has_dead}
 use Rattle.channel_model.proofs.CountedParts.{laters-keep}
-use Rattle.channel_model.proofs.FittingEnds.{fits-outbox, fits-state, fits-actors, fits-arrived, fits-stack, fits-promises, fits-names, fits-delivered, fits-behind, outbox-packets, behind-packets, released-stack, failed-stack, AnswerFits, answered-stack, entry-resolver, handled-resolver, without-names, actor-names, held-fits, more-names, rejected-promises, settled-promises, taken-fits, left-items, staying-items, last-item, replaced-in, all-drop}
+use Rattle.channel_model.proofs.FittingEnds.{fits-outbox, fits-state, fits-actors, fits-arrived, fits-stack, fits-promises, fits-names, fits-delivered, fits-following, outbox-packets, following-packets, released-stack, failed-stack, AnswerFits, answered-stack, entry-resolver, handled-resolver, without-names, actor-names, held-fits, more-names, rejected-promises, settled-promises, taken-fits, left-items, staying-items, last-item, replaced-in, all-drop}
 use Rattle.channel_model.proofs.FittingRequests.{promise-reply, sync-reply, same-row, request-kept, request-of, values-fit, fault-fits, rejected-fault, destroyed-fault, resolver-fault, promised-fault, gives-returns, reply-of}
 use Rattle.channel_model.proofs.FittingSends.{accepted-values, sent-fresh, sent-packets, sent-end, request-fresh}
 use Rattle.channel_model.proofs.FittingValues.{top-lives, values-carried, values-typed}
@@ -67,7 +67,7 @@ use Rattle.channel_model.proofs.SoundRows.{reply-row}
 use Rattle.channel_model.proofs.StepParts.{by-parts}
 use Rattle.channel_model.proofs.Tests.{and-left, and-right}
 
--- What a part leaves fits: the end behind it, its packets, and the ids that may be built.
+-- What a part makes fits: the end after it, its packets, and the ids that may be built.
 record PartFits (schema : Schema) (ps : List Packet) (e : End) (p : Phase) : Type 0 where
   end : IsFitting schema e
   packets : AllByRecursion (FitsPacket schema) ps
@@ -76,9 +76,9 @@ record PartFits (schema : Schema) (ps : List Packet) (e : End) (p : Phase) : Typ
 module _ (schema : Schema) (sound : IsSound schema) where
   -- Replies
 
-  -- the packets of an answer, where there is one
+  -- the packets of an answer, if there is one
   replies-fit : (b : Bool) (e : End) (q : AnsweredRequest) (a : Answer) → IsFitting schema e → (b ≡ true → Fits schema (reply_to q (body_of a))) → AllByRecursion (FitsPacket schema) (reply_packets b e q a)
-  replies-fit true e q a h k = behind-packets schema e (message (reply_to q (body_of a))) (k refl) h
+  replies-fit true e q a h k = following-packets schema e (message (reply_to q (body_of a))) (k refl) h
   replies-fit false e q a h k = tt
 
   owed-reply : (row : MessageRow) → owes_reply row ≡ true → has_reply row ≡ true
@@ -88,7 +88,7 @@ module _ (schema : Schema) (sound : IsSound schema) where
       by true is e = sync-reply row is
       by false is e = promise-reply row e
 
-  -- a row that is found for the number of a kept request is the row of that
+  -- the row that is found for the number of a kept request is that request's row
   kept-row : (row other : MessageRow) (q : AnsweredRequest) → IsRequestKept schema row q → request_row schema q.number ≡ Some other → row ≡ other
   kept-row row other q kept found = same_Some row other (sym kept.found ∙ found)
 
@@ -97,7 +97,7 @@ module _ (schema : Schema) (sound : IsSound schema) where
   not-dead : (row : MessageRow) (e : End) (vs : Values) (r : Resolver) → answering.resolver_refusal schema e row (Some vs) (Some r) ≡ None → has_dead schema e.actors (returns_of_row row) vs ≡ false
   not-dead row e vs r ok = accepted-values (answering.is_reply_too_large schema r vs) (has_dead schema e.actors (returns_of_row row) vs) ok
 
-  -- the resolver that is used, with the row that its answer goes by
+  -- the resolver that is used, with the row for its answer
   abbrev pub Used : MessageRow → Resolver → Type 0
   Used row r = (FitsResolver schema r) × (request_row schema r.number ≡ Some row)
 
@@ -188,7 +188,7 @@ module _ (schema : Schema) (sound : IsSound schema) where
   later-fits {e} (Parts.unnames name may silent) fresh h = record { end = fits-names schema e (without_name name e.names) (without-names schema name e.names h.names) h; packets = tt; fresh = fresh }
   later-fits {e} (Parts.lets_go name r may is open_is) fresh h = record {
     end = fits-outbox schema (record e { names = without_name name e.names }) (fits-names schema e (without_name name e.names) (without-names schema name e.names h.names) h);
-    packets = behind-packets schema e (message (reply_to (resolver_answered r) (Fault reason.ResolverDestroyed))) (promised-fault schema sound (resolver_answered r) (held-fits schema name e.names (resolver r) h.names is)) h;
+    packets = following-packets schema e (message (reply_to (resolver_answered r) (Fault reason.ResolverDestroyed))) (promised-fault schema sound (resolver_answered r) (held-fits schema name e.names (resolver r) h.names is)) h;
     fresh = fresh;
   }
   later-fits {e} (Parts.names more actors) fresh h = record { end = fits-names schema e (e.names ++ more) (all-append _ e.names more h.names (more-names schema more actors)) h; packets = tt; fresh = fresh }
@@ -232,11 +232,11 @@ module _ (schema : Schema) (sound : IsSound schema) where
       record { end = sent-end schema e row route vs name sent counted low h; packets = sent-packets schema e row route vs name sent counted low h; fresh = sent-fresh schema e row route vs name sent counted low h }
   first-fits {e} (Parts.answers by vs r row found may ok is) counted few h = record {
     end = fits-outbox schema (answering.without_resolver by e) (answered-end e by h);
-    packets = behind-packets schema e (message (reply_to (resolver_answered r) (answering.answer_body vs))) (answer-fits e vs r row (used e by r row found is h) may (ap (answering.resolver_refusal schema e row vs) (sym is) ∙ (passed-first (is_open e.state) refusal.Closed (answering.resolver_refusal schema e row vs (answering.resolver_used e by)) ok).1) h) h;
+    packets = following-packets schema e (message (reply_to (resolver_answered r) (answering.answer_body vs))) (answer-fits e vs r row (used e by r row found is h) may (ap (answering.resolver_refusal schema e row vs) (sym is) ∙ (passed-first (is_open e.state) refusal.Closed (answering.resolver_refusal schema e row vs (answering.resolver_used e by)) ok).1) h) h;
     fresh = tt;
   }
-  first-fits {e} (Parts.closes open_is waits) counted few h = record { end = closing-fits (record e { outbox = [] }) (fits-outbox schema e h); packets = behind-packets schema e (message goodbye) (record { number = refl; route = refl; seq = refl; transaction = refl; made = refl }) h; fresh = tt }
-  first-fits {e} (Parts.dies open_is) counted few h = record { end = fits-outbox schema (record e { state = Dead; stack = []; arrived = [] }) (dying-fits e h); packets = behind-packets schema e mark tt h; fresh = tt }
+  first-fits {e} (Parts.closes open_is waits) counted few h = record { end = closing-fits (record e { outbox = [] }) (fits-outbox schema e h); packets = following-packets schema e (message goodbye) (record { number = refl; route = refl; seq = refl; transaction = refl; made = refl }) h; fresh = tt }
+  first-fits {e} (Parts.dies open_is) counted few h = record { end = fits-outbox schema (record e { state = Dead; stack = []; arrived = [] }) (dying-fits e h); packets = following-packets schema e mark tt h; fresh = tt }
   first-fits {e} (Parts.dies_silent open_is alive) counted few h = record { end = dying-fits e h; packets = tt; fresh = tt }
   first-fits {e} (Parts.takes m sync level row vs next body found stays) counted few h =
       let r : IsRequestOf schema row m vs = request-of schema row m vs (taken-fits schema e (item.Message m sync level) h next).0 body found in
@@ -248,7 +248,7 @@ module _ (schema : Schema) (sound : IsSound schema) where
   first-fits {e} (Parts.drops m sync level row vs id replies next body found gone is) counted few h =
       let r : IsRequestOf schema row m vs = request-of schema row m vs (taken-fits schema e (item.Message m sync level) h next).0 body found in
       record {
-        end = fits-behind schema replies (left_end e) (leaving-fits e h);
+        end = fits-following schema replies (left_end e) (leaving-fits e h);
         packets = replies-fit replies e (request_answered m) (answer.Fault reason.ActorDestroyed) h
             (λ b. fault-fits schema sound row (request_answered m) (request-kept schema row m vs r) reason.ActorDestroyed (owed-reply row (and-right (is_open e.state) (owes_reply row) (sym is ∙ b))) (destroyed-fault row.semantics));
         fresh = tt;
@@ -263,10 +263,10 @@ module _ (schema : Schema) (sound : IsSound schema) where
       let kept : IsRequestKept schema row q = subst (λ (r : MessageRow). IsRequestKept schema r q) (kept-row k.row row q k.request returns.found) k.request in
       let off : IsFitting schema (record e { stack = drop 1 e.stack }) = fits-stack schema e (drop 1 e.stack) (all-drop (FitsEntry schema) e.stack h.stack) h in
       record {
-        end = fits-behind schema lost (end_behind told (record e { stack = drop 1 e.stack })) (fits-behind schema told (record e { stack = drop 1 e.stack }) off);
-        packets = all-append (FitsPacket schema) (reply_packets told e q (return.return_answer schema e row entry vs)) (reply_packets lost (end_behind told e) (resolver_answered (answering.resolver_in entry)) (answer.Fault reason.ResolverDestroyed))
+        end = fits-following schema lost (end_after told (record e { stack = drop 1 e.stack })) (fits-following schema told (record e { stack = drop 1 e.stack }) off);
+        packets = all-append (FitsPacket schema) (reply_packets told e q (return.return_answer schema e row entry vs)) (reply_packets lost (end_after told e) (resolver_answered (answering.resolver_in entry)) (answer.Fault reason.ResolverDestroyed))
             (replies-fit told e q (return.return_answer schema e row entry vs) h (λ b. return-fits e row entry q vs kept (sync-reply row (and-right (is_open e.state) (is_sync_row row) (sym t ∙ b))) returns.may h))
-            (replies-fit lost (end_behind told e) (resolver_answered (answering.resolver_in entry)) (answer.Fault reason.ResolverDestroyed) (fits-behind schema told e h)
+            (replies-fit lost (end_after told e) (resolver_answered (answering.resolver_in entry)) (answer.Fault reason.ResolverDestroyed) (fits-following schema told e h)
             (λ b. promised-fault schema sound (resolver_answered (answering.resolver_in entry)) (entry-resolver schema entry k (and-right (is_open e.state) entry.resolves (sym l ∙ b)))));
         fresh = tt;
       }
@@ -294,7 +294,7 @@ module _ (schema : Schema) (sound : IsSound schema) where
       let items : List Item = staying row.compress (delivery.item_of row m) e.arrived ++ delivery.item_of row m ∷ [] in
       fits-delivered schema (record e { arrived = items }) (e.delivered + 1) (counting row.kind e.constructors_delivered) (fits-arrived schema e items (staying-items schema e row.compress (delivery.item_of row m) (arriving row m fits found) h) h)
 
-  -- a request that is replaced is one of the same message
+  -- a request that is replaced is of the same message
   pub record Alike (m old : Message) : Type 0 where
     pub values : Values
     pub body : old.body ≡ Request values
@@ -349,7 +349,7 @@ module _ (schema : Schema) (sound : IsSound schema) where
   delivery-fits {e} (Parts.replaces m row vs old sync level replies body found rep is) fits accepted h =
       let new : Item = delivery.item_of row m in
       record {
-        end = fits-behind schema replies (delivery.counted row new e) (counted-fits row m e fits found h);
+        end = fits-following schema replies (delivery.counted row new e) (counted-fits row m e fits found h);
         packets = replies-fit replies e (request_answered old) (answer.Fault reason.ResolverDestroyed) h
             (λ b. replaced-fits e m old sync level row (replaced-in (FitsItem schema) row.compress new e.arrived (item.Message old sync level) h.arrived rep) found (sym is ∙ b));
         fresh = tt;

@@ -51,7 +51,7 @@ sync-reply row e = by row.semantics e
     by Sync e = refl
     by Async e = cc
 
--- the row that a number finds is one
+-- a number finds at most one row
 pub same-row : (schema : Schema) (n : ℕ) (row other : MessageRow) → message_of schema n ≡ Some row → message_of schema n ≡ Some other → row ≡ other
 same-row schema n row other found also = same_Some row other (sym found ∙ also)
 
@@ -76,7 +76,7 @@ request-of schema row m vs h body found =
     subst (λ (r : MessageRow). IsRequestOf schema r m vs) (same-row schema m.number f.0 row f.1.found found) f.1
 
 module _ (schema : Schema) (sound : IsSound schema) (row : MessageRow) (q : AnsweredRequest) (kept : IsRequestKept schema row q) where
-  -- whatever answers a request that has a reply is a reply to it
+  -- every answer to a request that has a reply is a reply to it
   is-reply : (body : Body) → has_reply row ≡ true → IsReplyTo schema row (reply_to q body)
   is-reply body replies =
       let n = request-number schema q.number row kept.found in
@@ -88,7 +88,7 @@ module _ (schema : Schema) (sound : IsSound schema) (row : MessageRow) (q : Answ
   pub fault-fits : (reason : Reason) → has_reply row ≡ true → IsFaultOf row.semantics reason → Fits schema (reply_to q (Fault reason))
   fault-fits reason replies fault = (row, is-reply (Fault reason) replies, fault)
 
--- the faults that an end answers by
+-- the faults with which an end answers
 
 pub rejected-fault : (s : Semantics) → IsFaultOf s HandlerRejected
 rejected-fault Sync = tt
@@ -101,13 +101,13 @@ destroyed-fault Async = tt
 pub resolver-fault : (row : MessageRow) → makes_promise row ≡ true → IsFaultOf row.semantics ResolverDestroyed
 resolver-fault row e = subst (λ (s : Semantics). IsFaultOf s ResolverDestroyed) (sym (promise-async row e)) tt
 
--- a resolver that is let go is answered by a message that fits
+-- a resolver that is destroyed is answered by a message that fits
 pub promised-fault : (schema : Schema) → IsSound schema → (q : AnsweredRequest) → FitsPromised schema q → Fits schema (reply_to q (Fault ResolverDestroyed))
 promised-fault schema sound q h = fault-fits schema sound h.0 q h.1 ResolverDestroyed (promise-reply h.0 h.2) (resolver-fault h.0 h.2)
 
 -- Answers
 
--- the returns of a row, by either definition
+-- the returns of a row are the same by both definitions
 returns-are : (returns : Option (List ParamRow)) → option_map_or (λ (types : List ParamRow). types) returns [] ≡ unwrap_or returns []
 returns-are None = refl
 returns-are (Some types) = refl

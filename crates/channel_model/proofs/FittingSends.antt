@@ -1,4 +1,4 @@
--- A request that is sent fits, and so does what it leaves behind.
+-- A request that is sent fits, and so does what it adds at its sender.
 use Rattle.std.proofs.Common.{◌≡◌, ◌≢◌, ℕ, ◌+◌, ◌<◌, ◌≤◌, ℤ, pos, Bool, true, false, not, ◌&&◌, ◌||◌, ◌==◌, cond, if◌then◌else◌, List, [], ◌∷◌, ◌++◌, find, map, Option, Some, None, is_some, is_none, option_map, unwrap_or, refl, sym, ◌∙◌, arith}
 use Rattle.std.specs.List.{AllByRecursion}
 use Rattle.ipdl_base.specs.Deferral.{rank}
@@ -22,14 +22,15 @@ use Rattle.value_types.specs.Fits.{IsFieldNumber, IsLivingId, IsTransactionOf, I
 use Rattle.channel_model.specs.Bounds.{IsCounted}
 use Rattle.channel_model.specs.Ends.{End, message, StackEntry}
 use Rattle.channel_model.specs.Fitting.{FitsEntry, FitsPromise, IsFitting, FitsPacket}
-use Rattle.channel_model.specs.Numbers.{sends, protocol_of, is_sync_row, is_constructor, makes_promise}
+use Rattle.ipdl_base.specs.Sides.{sends}
+use Rattle.channel_model.specs.Numbers.{protocol_of, is_sync_row, is_constructor, makes_promise}
 use Rattle.channel_model.specs.Outputs.{is_open}
 use Rattle.channel_model.specs.Parts.{IsSent, outbox_after, request_packets, promise_for, sent_end}
 use Rattle.channel_model.specs.Phases.{fresh_of}
 use Rattle.channel_model.specs.Sends as send
 use Rattle.channel_model.specs.Typed.{have_types}
 use Rattle.channel_model.specs.ValueActors.{lives_as, has_dead}
-use Rattle.channel_model.proofs.FittingEnds.{behind-packets, kept-async}
+use Rattle.channel_model.proofs.FittingEnds.{following-packets, kept-async}
 use Rattle.channel_model.proofs.FittingRequests.{request-kept}
 use Rattle.channel_model.proofs.FittingValues.{seq-fits, id-lives, lives-fits, values-carried, values-typed}
 use Rattle.channel_model.proofs.Known.{all-append}
@@ -145,12 +146,12 @@ module _ (schema : Schema) (e : End) (row : MessageRow) (route : ℤ) (vs : Valu
 
   sent-packets_by : (lazy : Bool) → AllByRecursion (FitsPacket schema) (request_packets lazy e (send.request_of e row route vs))
   sent-packets_by true = tt
-  sent-packets_by false = behind-packets schema e (message (send.request_of e row route vs)) sent-fits h
+  sent-packets_by false = following-packets schema e (message (send.request_of e row route vs)) sent-fits h
 
   pub sent-packets : AllByRecursion (FitsPacket schema) (request_packets row.lazy e (send.request_of e row route vs))
   sent-packets = sent-packets_by row.lazy
 
-  -- The end behind it
+  -- The end after it
 
   outbox-fits : (lazy : Bool) → AllByRecursion (Fits schema) (outbox_after lazy (send.request_of e row route vs) e.outbox)
   outbox-fits true = all-append (Fits schema) e.outbox (send.request_of e row route vs ∷ []) h.outbox (sent-fits, tt)

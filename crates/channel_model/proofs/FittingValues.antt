@@ -60,7 +60,7 @@ id-lives Child k one few = (pos-le 1 (4 * k) (omega arith), pos-le (4 * k) 21474
 
 -- Lists
 
--- what holds of all of a list holds of what is found in it, which passes
+-- what holds of all elements of a list holds of the element that is found in it, and that element passes
 found-one : {A : Type 0} (P : A → Type 0) (test : A → Bool) (y x : A) (rest : Option A) (b : Bool) → P y → (rest ≡ Some x → P x × (test x ≡ true)) → test y ≡ b → cond b (Some y) rest ≡ Some x → P x × (test x ≡ true)
 found-one P test y x rest true h k is e = let same : y ≡ x = same_Some y x e in (subst P same h, ap test (sym same) ∙ is)
 found-one P test y x rest false h k is e = k e
@@ -84,7 +84,7 @@ all-ids P (x ∷ xs) h = All-cons P x.id (map (λ (a : ActorValue). a.id) xs) h.
 -- Values
 
 module _ (actors : List Actor) (living : AllByRecursion HasLivingId actors) where
-  -- who lives has an id that fits
+  -- an actor that lives has an id that fits
   pub lives-fits : (id : ℤ) → lives id actors ≡ true → IsLivingId id
   lives-fits id e = by (actor_of id actors) refl e
     where

@@ -22,13 +22,13 @@ event-follows : (b : Bool) (P : Type 0) → b ≡ false → MatchBool b P (Unit 
 event-follows true P h = cc
 event-follows false P h = tt
 
--- effects of a side, and behind them what follows an event of it
+-- effects of a side, followed by what follows an event of it
 effects-follow : (side : Side) (xs ys : List Line) → AllByRecursion (IsEffectOf side) xs → EffectsFollow (Some side) ys → EffectsFollow (Some side) (xs ++ ys)
 effects-follow side [] ys h k = k
 effects-follow side (x ∷ xs) ys h k =
     (effect-follows (is_effect x.what) (Some side) x.side h.0.1 (ap Some (sym h.0.0)), subst (λ (s : Side). EffectsFollow (Some s) (xs ++ ys)) (sym h.0.0) (effects-follow side xs ys h.1 k))
 
--- an event with its effects, and behind them what follows any event
+-- an event with its effects, followed by what follows any event
 event_with_effects-follow : (before : Option Side) (side : Side) (xs ys : List Line) → IsEventWithEffects side xs → ((s : Option Side) → EffectsFollow s ys) → EffectsFollow before (xs ++ ys)
 event_with_effects-follow before side [] ys h k = absurd h
 event_with_effects-follow before side (x ∷ xs) ys h k =

@@ -1,4 +1,4 @@
--- What follows of moves and histories, for all moves.
+-- Laws of moves and histories, for all moves.
 use Rattle.std.proofs.Common.{◌≡◌, List, [], ◌∷◌, ◌++◌, Option, Some, None, IsNone, refl, sym, ap, ◌∙◌, append_assoc}
 use Rattle.ipdl_base.specs.declared.schema.Schema.{Schema}
 use Rattle.channel_model.specs.Ends.{World, opening}

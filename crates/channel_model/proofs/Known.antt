@@ -1,4 +1,4 @@
--- What changes of actors and ids keep them known.
+-- Changes of actors and ids that keep them known.
 use Rattle.std.proofs.Common.{◌≡◌, ◌≢◌, ◌⊎◌, inl, inr, ℕ, ◌+◌, ◌*◌, ◌≤◌, ℤ, Bool, true, false, not, cond, List, [], ◌∷◌, ◌++◌, filter, refl, sym, subst, ◌∙◌, arith}
 use Rattle.std.specs.List.{AllByRecursion}
 use Rattle.actor_tree.specs.declared.actor.Actor.{Actor}
@@ -9,7 +9,8 @@ use Rattle.actor_tree.proofs.Kept.{IsTree-append, IsTree-without}
 use Rattle.actor_tree.proofs.Whole.{gives_subtree}
 use Rattle.ipdl_base.specs.declared.kinds.Side.{Side}
 use Rattle.ipdl_base.specs.declared.kinds.Side.TheVariants.{Parent, Child}
-use Rattle.channel_model.specs.Numbers.{other, id_of, top_id}
+use Rattle.ipdl_base.specs.Sides.{other, top_id}
+use Rattle.channel_model.specs.Numbers.{id_of}
 use Rattle.channel_model.specs.Actors.{Ids, IsIdOf, IsTaken, AreDistinct, IsNew, IsTopOf, AreKnown}
 use Rattle.channel_model.proofs.Sublists.{Sublist, all-sublist, distinct-sublist}
 
@@ -59,9 +60,9 @@ pub all-before : {A : Type 0} (P : A → Type 0) (xs ys : List A) → AllByRecur
 all-before P [] ys h = tt
 all-before P (x ∷ xs) ys h = (h.0, all-before P xs ys h.1)
 
-pub all-behind : {A : Type 0} (P : A → Type 0) (xs ys : List A) → AllByRecursion P (xs ++ ys) → AllByRecursion P ys
-all-behind P [] ys h = h
-all-behind P (x ∷ xs) ys h = all-behind P xs ys h.1
+pub all-following : {A : Type 0} (P : A → Type 0) (xs ys : List A) → AllByRecursion P (xs ++ ys) → AllByRecursion P ys
+all-following P [] ys h = h
+all-following P (x ∷ xs) ys h = all-following P xs ys h.1
 
 pub all-filter : {A : Type 0} (P : A → Type 0) (test : A → Bool) (xs : List A) → AllByRecursion P xs → AllByRecursion P (filter test xs)
 all-filter P test [] h = tt
@@ -74,15 +75,15 @@ pub distinct-last : (xs : List ℤ) (y : ℤ) → AreDistinct xs → AllByRecurs
 distinct-last [] y d h = (tt, tt)
 distinct-last (x ∷ xs) y d h = (all-append (λ later. x ≢ later) xs (y ∷ []) d.0 (h.0, tt), distinct-last xs y d.1 h.1)
 
--- one of distinct ids differs from those before and behind it
+-- one of distinct ids differs from those before and after it
 pub distinct-from : (xs : List ℤ) (y : ℤ) (zs : List ℤ) → AreDistinct (xs ++ y ∷ zs) → AllByRecursion (λ x. x ≢ y) (xs ++ zs)
 distinct-from [] y zs d = all-map (λ later. y ≢ later) (λ x. x ≢ y) zs (λ x n e. n (sym e)) d.0
-distinct-from (x ∷ xs) y zs d = ((all-behind (λ later. x ≢ later) xs (y ∷ zs) d.0).0, distinct-from xs y zs d.1)
+distinct-from (x ∷ xs) y zs d = ((all-following (λ later. x ≢ later) xs (y ∷ zs) d.0).0, distinct-from xs y zs d.1)
 
 pub distinct-without : (xs : List ℤ) (y : ℤ) (zs : List ℤ) → AreDistinct (xs ++ y ∷ zs) → AreDistinct (xs ++ zs)
 distinct-without [] y zs d = d.1
 distinct-without (x ∷ xs) y zs d =
-    (all-append (λ later. x ≢ later) xs zs (all-before (λ later. x ≢ later) xs (y ∷ zs) d.0) (all-behind (λ later. x ≢ later) xs (y ∷ zs) d.0).1, distinct-without xs y zs d.1)
+    (all-append (λ later. x ≢ later) xs zs (all-before (λ later. x ≢ later) xs (y ∷ zs) d.0) (all-following (λ later. x ≢ later) xs (y ∷ zs) d.0).1, distinct-without xs y zs d.1)
 
 -- Actors
 
@@ -116,7 +117,7 @@ tree-falls id actors (a ∷ given) left t f =
     let next = f.1 in
     tree-falls id f.0 given left (subst IsTree (sym next.left) (IsTree-without actors id a (post_order id f.0) t next.next)) f.2
 
--- those who do not fall are a tree
+-- the actors that do not fall are a tree
 pub tree-others : (id : ℤ) (actors : List Actor) → IsTree actors → IsTree (others (post_order id actors) actors)
 tree-others id actors t =
     tree-falls id actors (post_order id actors) (others (post_order id actors) actors) t ((gives_subtree id actors (post_order id actors) (others (post_order id actors) actors) t).1 (refl, refl))
@@ -135,7 +136,7 @@ known-counted protocol ids h = record {
   distinct = h.distinct;
 }
 
--- An id that may be built: it is taken, and of nobody who lives or has arrived.
+-- An id that may be built: it is taken, and no actor that lives or has arrived has it.
 abbrev pub IsFresh : Ids → ℤ → Type 0
 IsFresh ids id = (IsIdOf ids.side ids.sent id ⊎ IsIdOf (other ids.side) ids.delivered id) × (lives id ids.actors ≡ false) × AllByRecursion (λ x. x ≢ id) ids.waiting
 
@@ -166,12 +167,12 @@ fresh-own protocol ids h =
     )
 
 -- an id that has arrived, when it has left
-pub fresh-arrived : (protocol : ℕ) (ids : Ids) (id : ℤ) (before behind : List ℤ) → AreKnown protocol ids → ids.waiting ≡ before ++ id ∷ behind → IsFresh (record ids { waiting = before ++ behind }) id
-fresh-arrived protocol ids id before behind h is =
-    let new : IsNew ids id = (all-behind (IsNew ids) before (id ∷ behind) (subst (AllByRecursion (IsNew ids)) is h.waiting)).0 in
-    (inr new.0, new.1, distinct-from before id behind (subst AreDistinct is h.distinct))
+pub fresh-arrived : (protocol : ℕ) (ids : Ids) (id : ℤ) (before following : List ℤ) → AreKnown protocol ids → ids.waiting ≡ before ++ id ∷ following → IsFresh (record ids { waiting = before ++ following }) id
+fresh-arrived protocol ids id before following h is =
+    let new : IsNew ids id = (all-following (IsNew ids) before (id ∷ following) (subst (AllByRecursion (IsNew ids)) is h.waiting)).0 in
+    (inr new.0, new.1, distinct-from before id following (subst AreDistinct is h.distinct))
 
--- some that have arrived are dropped
+-- some items that have arrived are dropped
 pub known-fewer : (protocol : ℕ) (ids : Ids) (some : List ℤ) → AreKnown protocol ids → Sublist some ids.waiting → AreKnown protocol (record ids { waiting = some })
 known-fewer protocol ids some h s = record {
   tree = h.tree;

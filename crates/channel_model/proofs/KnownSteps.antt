@@ -26,17 +26,18 @@ use Rattle.nesting_core.specs.declared.frame.Answer.TheVariants as answer
 use Rattle.pending_queue.specs.declared.item.Item.{Item}
 use Rattle.pending_queue.specs.declared.item.Item.TheVariants as item
 use Rattle.pending_queue.specs.Compression.{is_request, staying}
-use Rattle.pending_queue.specs.Holding.{is_free, without_first}
+use Rattle.pending_queue.specs.DeferralContext.{is_free, without_first}
 use Rattle.channel_model.specs.Actors.{AreKnown, IsAccepted, ids_of, new_ids_in, new_ids, constructs_by}
 use Rattle.channel_model.specs.Answers.{without_resolver}
 use Rattle.channel_model.specs.Deliveries as delivery
 use Rattle.channel_model.specs.Ends.{End, Packet, message, mark}
 use Rattle.channel_model.specs.Events.{Answering, handled, kept}
 use Rattle.channel_model.specs.Events as event
-use Rattle.channel_model.specs.Numbers.{other, top_id, is_sync_row, is_constructor, counting, sends as sends_way}
+use Rattle.ipdl_base.specs.Sides.{other, top_id, sends as sends_way}
+use Rattle.channel_model.specs.Numbers.{is_sync_row, is_constructor, counting}
 use Rattle.channel_model.specs.Outputs.{Output, body_of}
 use Rattle.channel_model.specs.Parts
-use Rattle.channel_model.specs.Parts.{FirstPart, LaterPart, LaterParts, OwnParts, DeliveryPart, end_behind, left_end, falling, fallen_end, farewell_item}
+use Rattle.channel_model.specs.Parts.{FirstPart, LaterPart, LaterParts, OwnParts, DeliveryPart, end_after, left_end, falling, fallen_end, farewell_item}
 use Rattle.channel_model.specs.Phases.{Phase}
 use Rattle.channel_model.specs.Refusals.{packet_refusal, body_refusal, actor_refusal, expected_seq, expected_id, wrong_direction, wrong_number, wrong_new_id}
 use Rattle.channel_model.specs.Sends as send
@@ -48,7 +49,7 @@ use Rattle.channel_model.proofs.Known.{all-map, dead-filter, IsFresh, known-coun
 use Rattle.channel_model.proofs.StepParts.{by-parts}
 use Rattle.channel_model.proofs.Sublists.{Sublist, sublist-none, sublist-flat_map, without_first-sublist, staying-sublist, TakenOut, taken_out}
 
--- Actors are known in a phase: and the ids that may be built are fresh, of which there is one at most.
+-- Actors are known in a phase, and the ids that may be built are fresh and at most one.
 pub record KnownIn (schema : Schema) (protocol : ℕ) (p : Phase) (e : End) : Type 0 where
   pub known : AreKnown protocol (ids_of schema e)
   pub fresh : AllByRecursion (IsFresh (ids_of schema e)) p.fresh
@@ -60,16 +61,16 @@ pub record KnownIn (schema : Schema) (protocol : ℕ) (p : Phase) (e : End) : Ty
 pub new_ids-last : (schema : Schema) (items : List Item) (new : Item) → new_ids schema (items ++ new ∷ []) ≡ new_ids schema items ++ new_ids_in schema new
 new_ids-last schema items new = flat_map-append (new_ids_in schema) items (new ∷ []) ∙ ap (λ ids. new_ids schema items ++ ids) (append-nil (new_ids_in schema new))
 
--- what is no request has no new id
+-- an item that is not a request has no new id
 pub not_request : (schema : Schema) (m : Message) (sync : Bool) (level : Level) → is_request m.body ≡ false → new_ids_in schema (item.Message m sync level) ≡ []
 not_request schema m sync level plain = ap (λ (b : Bool). cond (b && constructs_by schema m.number) (m.made ∷ []) []) plain
 
--- a constructor has its own, another request has none
+-- a constructor has its own id, any other request has none
 pub new_ids-request : (schema : Schema) (m : Message) (row : MessageRow) (vs : Values) (sync : Bool) (level : Level) → m.body ≡ Request vs → message_of schema m.number ≡ Some row → new_ids_in schema (item.Message m sync level) ≡ cond (is_constructor row.kind) (m.made ∷ []) []
 new_ids-request schema m row vs sync level body found =
     ap (λ (b : Body). cond (is_request b && constructs_by schema m.number) (m.made ∷ []) []) body ∙ ap (λ (r : Option MessageRow). cond (option_map_or (λ (row : MessageRow). is_constructor row.kind) r false) (m.made ∷ []) []) found
 
--- the third of three tests passes where none refuses
+-- the third of three tests passes if no test refuses
 pub third_passes : {A : Type 0} (a b c d : Bool) (x y z : A) (rest : Option A) → cond (not a) (Some x) (cond (not b) (Some y) (cond (c && not d) (Some z) rest)) ≡ None → c ≡ true → d ≡ true
 third_passes a b c true x y z rest e h = refl
 third_passes true true true false x y z rest e h = cc
@@ -123,12 +124,12 @@ module _ (schema : Schema) (protocol : ℕ) where
   -- the item that is taken has left
   left-known : (e : End) → Known e → Known (left_end e)
   left-known e h =
-      let test : Item → Bool = is_free (take.holding_of e) in
+      let test : Item → Bool = is_free (take.deferral_context_of e) in
       known-fewer protocol (ids_of schema e) (new_ids schema (without_first test e.arrived)) h (sublist-flat_map (new_ids_in schema) (without_first test e.arrived) e.arrived (without_first-sublist test e.arrived))
 
-  behind-known : (b : Bool) (e : End) → Known e → Known (end_behind b e)
-  behind-known true e h = h
-  behind-known false e h = h
+  following-known : (b : Bool) (e : End) → Known e → Known (end_after b e)
+  following-known true e h = h
+  following-known false e h = h
 
   used-known : (by : Answering) (e : End) → Known e → Known (without_resolver by e)
   used-known (handled seq) e h = h
@@ -151,15 +152,15 @@ module _ (schema : Schema) (protocol : ℕ) where
   sent-fresh e Delete h = tt
 
   -- a request is taken
-  taken-fresh : (e : End) (m : Message) (sync : Bool) (level : Level) (kind : Kind) → Known e → find (is_free (take.holding_of e)) e.arrived ≡ Some (item.Message m sync level) → new_ids_in schema (item.Message m sync level) ≡ cond (is_constructor kind) (m.made ∷ []) []
+  taken-fresh : (e : End) (m : Message) (sync : Bool) (level : Level) (kind : Kind) → Known e → find (is_free (take.deferral_context_of e)) e.arrived ≡ Some (item.Message m sync level) → new_ids_in schema (item.Message m sync level) ≡ cond (is_constructor kind) (m.made ∷ []) []
       → AllByRecursion (IsFresh (ids_of schema (left_end e))) (if is_constructor kind then m.made ∷ [] else [])
   taken-fresh e m sync level Normal h found own = tt
   taken-fresh e m sync level Delete h found own = tt
   taken-fresh e m sync level (Constructor p) h found own =
-      let test : Item → Bool = is_free (take.holding_of e) in
+      let test : Item → Bool = is_free (take.deferral_context_of e) in
       let out : TakenOut (new_ids_in schema) test e.arrived (item.Message m sync level) = taken_out (new_ids_in schema) test e.arrived (item.Message m sync level) found in
-      let whole : new_ids schema e.arrived ≡ out.before ++ m.made ∷ out.behind = out.whole ∙ ap (λ (ids : List ℤ). out.before ++ (ids ++ out.behind)) own in
-      (subst (λ (ids : List ℤ). IsFresh (record (ids_of schema e) { waiting = ids }) m.made) (sym out.rest) (fresh-arrived protocol (ids_of schema e) m.made out.before out.behind h whole), tt)
+      let whole : new_ids schema e.arrived ≡ out.before ++ m.made ∷ out.following = out.whole ∙ ap (λ (ids : List ℤ). out.before ++ (ids ++ out.following)) own in
+      (subst (λ (ids : List ℤ). IsFresh (record (ids_of schema e) { waiting = ids }) m.made) (sym out.rest) (fresh-arrived protocol (ids_of schema e) m.made out.before out.following h whole), tt)
 
   pub first-known : {p : Phase} {e f : End} {ws : List What} {ps : List Packet} → FirstPart schema e ws ps f p → Known e → KnownIn schema protocol p f
   first-known (Parts.refuses w is) h = record { known = h; fresh = tt; few = omega arith }
@@ -175,14 +176,14 @@ module _ (schema : Schema) (protocol : ℕ) where
     fresh = taken-fresh e m sync level row.kind h (taken-first e (item.Message m sync level) next) (new_ids-request schema m row vs sync level body found);
     few = fresh-one row.kind m.made;
   }
-  first-known {e} (Parts.drops m sync level row vs id replies next body found gone is) h = record { known = behind-known replies (left_end e) (left-known e h); fresh = tt; few = omega arith }
+  first-known {e} (Parts.drops m sync level row vs id replies next body found gone is) h = record { known = following-known replies (left_end e) (left-known e h); fresh = tt; few = omega arith }
   first-known {e} (Parts.drops_unknown m sync level vs next body none) h = record { known = left-known e h; fresh = tt; few = omega arith }
   first-known {e} (Parts.takes_reply m sync level a next body late) h = record { known = left-known e h; fresh = tt; few = omega arith }
   first-known {e} (Parts.settles m sync level row a next body found is) h = record { known = left-known e h; fresh = tt; few = omega arith }
   first-known {e} (Parts.shuts last next is) h = record { known = dropped-known e h; fresh = tt; few = omega arith }
   first-known {e} (Parts.returns entry row vs told lost returns t l) h =
       let off : End = record e { stack = drop 1 e.stack } in
-      record { known = behind-known lost (end_behind told off) (behind-known told off h); fresh = tt; few = omega arith }
+      record { known = following-known lost (end_after told off) (following-known told off h); fresh = tt; few = omega arith }
   first-known (Parts.resumes wait row on_top found) h = record { known = h; fresh = tt; few = omega arith }
 
   own-known : {p : Phase} {e f : End} {ws : List What} {ps : List Packet} → OwnParts schema e ws ps f p → Known e → Known f
@@ -195,7 +196,7 @@ module _ (schema : Schema) (protocol : ℕ) where
   last-known e new none h =
       subst (λ (ids : List ℤ). AreKnown protocol (record (ids_of schema e) { waiting = ids })) (sym (new_ids-last schema e.arrived new ∙ ap (λ ids. new_ids schema e.arrived ++ ids) none ∙ append-nil (new_ids schema e.arrived))) h
 
-  -- a request arrives: a constructor with its new id, another with none
+  -- a request arrives: a constructor with its new id, any other without one
   arrived-known : (e : End) (some new : List ℤ) (kind : Kind) (made : ℤ) → Known e → Sublist some (new_ids schema e.arrived) → new ≡ cond (is_constructor kind) (made ∷ []) [] → (is_constructor kind ≡ true → made ≡ expected_id e)
       → AreKnown protocol (record (ids_of schema e) { delivered = counting kind e.constructors_delivered; waiting = some ++ new })
   arrived-known e some new Normal made h s is next = subst (λ (ids : List ℤ). AreKnown protocol (record (ids_of schema e) { waiting = ids })) (sym (ap (λ ids. some ++ ids) is ∙ append-nil some)) (known-fewer protocol (ids_of schema e) some h s)
@@ -233,7 +234,7 @@ module _ (schema : Schema) (protocol : ℕ) where
 
   delivery-known : {packet : Packet} {p : Phase} {e f : End} {ws : List What} {ps : List Packet} → DeliveryPart schema packet e ws ps f p → packet_refusal schema e packet ≡ None → Known e → Known f
   delivery-known {e} (Parts.gets_request m row vs body found none) accepted h = counted-known e m row vs body found accepted h
-  delivery-known {e} (Parts.replaces m row vs old sync level replies body found rep is) accepted h = behind-known replies (delivery.counted row (delivery.item_of row m) e) (counted-known e m row vs body found accepted h)
+  delivery-known {e} (Parts.replaces m row vs old sync level replies body found rep is) accepted h = following-known replies (delivery.counted row (delivery.item_of row m) e) (counted-known e m row vs body found accepted h)
   delivery-known (Parts.gets_answer m row a body found sync) accepted h = h
   delivery-known {e} (Parts.gets_reply m row a body found async) accepted h = last-known e (delivery.item_of row m) (not_request schema m (is_sync_row row) row.level (ap is_request body ∙ reply-plain a)) h
   delivery-known {e} (Parts.drains packet is) accepted h = last-known e (farewell_item packet) (farewell-ids packet is) h

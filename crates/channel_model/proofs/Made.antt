@@ -1,4 +1,4 @@
--- What a change makes, as parts, and how such changes go together.
+-- What a change makes, as parts, and how such changes are composed.
 use Rattle.std.proofs.Common.{◌≡◌, List, [], ◌++◌, map, refl, sym, ap, subst, ◌∙◌, append_assoc}
 use Rattle.std.proofs.lemmas.List.{map-append, append-nil}
 use Rattle.ipdl_base.specs.declared.line.What.{What}
@@ -9,12 +9,12 @@ use Rattle.channel_model.specs.Parts.{FirstPart, LaterPart, LaterParts, done, th
 use Rattle.channel_model.specs.Phases.{Phase, IsOver}
 use Rattle.channel_model.specs.StepLaws.{IsMadeOf}
 
--- parts behind an end: their lines, their packets, the end behind them and the phase
-abbrev pub PartsBehind : Type 1
-PartsBehind = List What → List Packet → End → Phase → Type 0
+-- parts after an end: their lines, their packets, the end after them and the phase
+abbrev pub PartsAfter : Type 1
+PartsAfter = List What → List Packet → End → Phase → Type 0
 
 -- parts make what a change makes of an output
-pub record Makes (Parts : PartsBehind) (change : Change) (o : Output) (q : Phase) : Type 0 where
+pub record Makes (Parts : PartsAfter) (change : Change) (o : Output) (q : Phase) : Type 0 where
   pub whats : List What
   pub packets : List Packet
   pub parts : Parts whats packets (change o).end q
@@ -23,7 +23,7 @@ pub record Makes (Parts : PartsBehind) (change : Change) (o : Output) (q : Phase
   pub side_is : (change o).end.side ≡ o.end.side
 
 -- the parts, with the end that they make
-abbrev pub made-at : (Parts : PartsBehind) (change : Change) (o : Output) (q : Phase) (ws : List What) (ps : List Packet) (f : End) → Parts ws ps f q → (change o).end ≡ f → (change o).lines ≡ o.lines ++ map (line_at o.end.side) ws → (change o).packets ≡ o.packets ++ ps → f.side ≡ o.end.side
+abbrev pub made-at : (Parts : PartsAfter) (change : Change) (o : Output) (q : Phase) (ws : List What) (ps : List Packet) (f : End) → Parts ws ps f q → (change o).end ≡ f → (change o).lines ≡ o.lines ++ map (line_at o.end.side) ws → (change o).packets ≡ o.packets ++ ps → f.side ≡ o.end.side
     → Makes Parts change o q
 made-at Parts change o q ws ps f parts end_is lines packets side = record {
   whats = ws;
@@ -34,12 +34,12 @@ made-at Parts change o q ws ps f parts end_is lines packets side = record {
   side_is = ap (λ (x : End). x.side) end_is ∙ side;
 }
 
-abbrev pub made : (Parts : PartsBehind) (change : Change) (o : Output) (q : Phase) (ws : List What) (ps : List Packet) → Parts ws ps (change o).end q → (change o).lines ≡ o.lines ++ map (line_at o.end.side) ws → (change o).packets ≡ o.packets ++ ps → (change o).end.side ≡ o.end.side
+abbrev pub made : (Parts : PartsAfter) (change : Change) (o : Output) (q : Phase) (ws : List What) (ps : List Packet) → Parts ws ps (change o).end q → (change o).lines ≡ o.lines ++ map (line_at o.end.side) ws → (change o).packets ≡ o.packets ++ ps → (change o).end.side ≡ o.end.side
     → Makes Parts change o q
 made Parts change o q ws ps parts lines packets side = record { whats = ws; packets = ps; parts = parts; lines_are = lines; packets_are = packets; side_is = side }
 
--- a change that is another one at this output
-pub made-as : (Parts : PartsBehind) (change other : Change) (o : Output) (q : Phase) → other o ≡ change o → Makes Parts other o q → Makes Parts change o q
+-- a change that equals another at this output
+pub made-as : (Parts : PartsAfter) (change other : Change) (o : Output) (q : Phase) → other o ≡ change o → Makes Parts other o q → Makes Parts change o q
 made-as Parts change other o q is a = record {
   whats = a.whats;
   packets = a.packets;
@@ -59,7 +59,7 @@ later-append {p} {r} {e} {g} {vs} {qs} (then {ws = ws₁} {vs = ws₂} {ps = ps�
     subst (λ (ws : List What). LaterParts p e ws ((ps₁ ++ ps₂) ++ qs) g r) (sym (append_assoc ws₁ ws₂ vs))
     (subst (λ (ps : List Packet). LaterParts p e (ws₁ ++ (ws₂ ++ vs)) ps g r) (sym (append_assoc ps₁ ps₂ qs)) (then part (later-append rest c)))
 
--- two changes, of which each makes some lines and packets
+-- two changes, each of which makes some lines and packets
 joined-lines : (f g : Change) (o : Output) (ws vs : List What) → (f o).lines ≡ o.lines ++ map (line_at o.end.side) ws → (g (f o)).lines ≡ (f o).lines ++ map (line_at (f o).end.side) vs → (f o).end.side ≡ o.end.side
     → (g (f o)).lines ≡ o.lines ++ map (line_at o.end.side) (ws ++ vs)
 joined-lines f g o ws vs first second side =
@@ -113,7 +113,7 @@ pub made-alone : (schema : Schema) (q : Phase) (change : Change) (o : Output) �
 made-alone schema q change o a over = made-as (OwnParts schema o.end) change (change ▷ unchanged) o q refl (made-begun schema q q change unchanged o a (made-nothing q unchanged (change o) refl) over)
 
 -- a step is its change from the beginning
-pub made-step : (Parts : PartsBehind) (e : End) (change : Change) (q : Phase) → Makes Parts change (beginning e) q → IsMadeOf Parts e.side (change (beginning e))
+pub made-step : (Parts : PartsAfter) (e : End) (change : Change) (q : Phase) → Makes Parts change (beginning e) q → IsMadeOf Parts e.side (change (beginning e))
 made-step Parts e change q a = record {
   whats = a.whats;
   phase = q;

@@ -22,19 +22,19 @@ use Rattle.channel_model.specs.Ends.{End, Packet, message, mark, Naming, NameCon
 use Rattle.channel_model.specs.Events.{Answering, handled, kept}
 use Rattle.channel_model.specs.Falls as fall
 use Rattle.channel_model.specs.Names.{held_by_name, without_name, holding, renamed, let_go}
-use Rattle.channel_model.specs.Numbers.{top_id}
+use Rattle.ipdl_base.specs.Sides.{top_id}
 use Rattle.channel_model.specs.Outputs.{Output, Change, ◌▷◌, unchanged, when, on_end, line, put, is_open, is_closed, is_dead_end, resolver_answered, reply_to, answer_line, line_at}
 use Rattle.channel_model.specs.Parts
-use Rattle.channel_model.specs.Parts.{FirstPart, LaterParts, OwnParts, HoldsActor, IsRefusal, IsRenaming, IsSilent, behind_outbox, reply_packet, fall_lines, abandoned_lines, abandoned_end, shut_end}
+use Rattle.channel_model.specs.Parts.{FirstPart, LaterParts, OwnParts, HoldsActor, IsRefusal, IsRenaming, IsSilent, after_outbox, reply_packet, fall_lines, abandoned_lines, abandoned_end, shut_end}
 use Rattle.channel_model.specs.Phases.{Phase, nobody, deletion, quiet, renaming, shutting}
 use Rattle.channel_model.specs.Sends as send
 use Rattle.channel_model.proofs.Made.{Makes, made, made-as, made-nothing, made-later_at, made-later, made-joined, made-begun, made-alone}
 
--- packets go behind the outbox
-pub put-packets : (ps : List Packet) (e : End) (packet : Packet) → ps ++ map message e.outbox ++ packet ∷ [] ≡ ps ++ behind_outbox e packet
+-- packets go after the outbox
+pub put-packets : (ps : List Packet) (e : End) (packet : Packet) → ps ++ map message e.outbox ++ packet ∷ [] ≡ ps ++ after_outbox e packet
 put-packets ps e packet = append_assoc ps (map message e.outbox) (packet ∷ [])
 
--- What a name held is let go
+-- What a name loses
 
 abbrev fault_of : Resolver → Packet
 fault_of r = reply_packet (resolver_answered r) (answer.Fault ResolverDestroyed)
@@ -55,14 +55,14 @@ gaining more = on_end (λ e. record e { names = e.names ++ more })
 abbrev pub done_phase : Phase → Phase
 done_phase p = record p { due = nobody }
 
--- a phase in which a name has lost what it held, or has not
+-- a phase in which a name has lost its content, or has not
 abbrev pub renamed_phase : Bool → Phase → Phase
 renamed_phase b p = record p { renames = b }
 
 letting-resolver : (p : Phase) (name : List ℕ) (r : Resolver) (b : Bool) (o : Output) → p.renames ≡ true → held_by_name name o.end.names ≡ Some (resolver r) → is_open o.end.state ≡ b
     → Makes (LaterParts p o.end) (losing name ▷ when b (fault r)) o (renamed_phase false p)
 letting-resolver p name r true o may is open_is =
-    made-later p (renamed_phase false p) (losing name ▷ when true (fault r)) o (what.AnswerFault r.seq ResolverDestroyed ∷ []) (behind_outbox o.end (fault_of r)) (Parts.lets_go name r may is open_is) refl (put-packets o.packets o.end (fault_of r)) refl
+    made-later p (renamed_phase false p) (losing name ▷ when true (fault r)) o (what.AnswerFault r.seq ResolverDestroyed ∷ []) (after_outbox o.end (fault_of r)) (Parts.lets_go name r may is open_is) refl (put-packets o.packets o.end (fault_of r)) refl
 letting-resolver p name r false o may is open_is =
     made-later p (renamed_phase false p) (losing name ▷ when false (fault r)) o [] [] (Parts.unnames name may (subst (IsSilent o.end) (sym is) open_is)) (sym (append-nil o.lines)) (sym (append-nil o.packets)) refl
 
@@ -75,7 +75,7 @@ letting-made p name (Some (resolver r)) o may is =
     let b : Bool = is_open o.end.state in
     made-as (LaterParts p o.end) (letting (Some (resolver r)) name) (losing name ▷ when b (fault r)) o (renamed_phase false p) refl (letting-resolver p name r b o may is refl)
 
--- a name gets an actor or nothing
+-- a name gets an actor or no content
 
 abbrev pub NoResolver : Option NameContent → Type 0
 NoResolver None = Unit {0}
@@ -101,7 +101,7 @@ pub names_actor-made : (p : Phase) (id : ℤ) (name : Option (List ℕ)) (o : Ou
 names_actor-made p id None o may = (p.renames, made-nothing p unchanged o refl)
 names_actor-made p id (Some name) o may = (false, renamed-made p name (Some (actor id)) o may tt)
 
--- a new name leaves the actors
+-- a new name leaves the actors unchanged
 
 letting-actors : (name : List ℕ) (before : Option NameContent) (o : Output) → (letting before name o).end.actors ≡ o.end.actors
 letting-actors name None o = refl
@@ -117,7 +117,7 @@ names_actor-actors id (Some name) o = letting-actors name (held_by_name name o.e
 abbrev keeping : ℤ → List Naming → Change
 keeping seq more = on_end (λ e. record e { stack = answering.released seq e.stack; names = e.names ++ more })
 
--- a resolver is taken from its dispatch and given to a name, or is let go at a closed end
+-- a resolver is taken from its dispatch and given to a name, or is dropped at a closed end
 giving-made : (p : Phase) (seq : ℤ) (name : List ℕ) (found : Resolver) (b : Bool) (o : Output) → answering.handled_resolver o.end seq ≡ Some found → is_closed o.end.state ≡ b
     → Makes (LaterParts p o.end) (keeping seq (holding name (cond b None (Some (resolver found))))) o p
 giving-made p seq name found true o is closed =
@@ -126,7 +126,7 @@ giving-made p seq name found true o is closed =
 giving-made p seq name found false o is closed =
     made-later p p (keeping seq (record { name = name; holds = resolver found } ∷ [])) o [] [] (Parts.keeps seq name found is closed) (sym (append-nil o.lines)) (sym (append-nil o.packets)) refl
 
--- what is let go leaves the stack and the state
+-- what a name loses does not change the stack and the state
 
 letting-stack : (name : List ℕ) (before : Option NameContent) (o : Output) → (letting before name o).end.stack ≡ o.end.stack
 letting-stack name None o = refl
@@ -138,7 +138,7 @@ letting-state name None o = refl
 letting-state name (Some (actor id)) o = refl
 letting-state name (Some (resolver r)) o = elim (is_open o.end.state) as (λ b. (when b (fault r) (losing name o)).end.state ≡ o.end.state) [ true ↦ refl | false ↦ refl ]
 
--- the release of a stack may stand behind what is let go
+-- the release of a stack may follow what a name loses
 keep-later : (seq : ℤ) (name : List ℕ) (more : List Naming) (before : Option NameContent) (o : Output)
     → (letting before name ▷ keeping seq more) o ≡ (on_end (λ e. record e { stack = answering.released seq e.stack }) ▷ letting before name ▷ gaining more) o
 keep-later seq name more None o = refl
@@ -161,7 +161,7 @@ keep-named p e seq name found o may same is =
     (giving-made q seq name found b (letting before name o) (handled-later seq name before found o is) (ap is_closed (letting-state name before o ∙ ap (λ (x : End). x.state) same))))
 
 module _ (schema : Schema) where
-  -- a line of a refusal, or one by which a name is to hold something else
+  -- a line of a refusal, or a line after which a name gets a new content
 
   pub refusal-made : (w : What) (o : Output) → IsRefusal schema w → Makes (FirstPart schema o.end) (line w) o quiet
   refusal-made w o is = made (FirstPart schema o.end) (line w) o quiet (w ∷ []) [] (Parts.refuses w is) refl (sym (append-nil o.packets)) refl
@@ -186,12 +186,12 @@ module _ (schema : Schema) where
       reply : Packet
       reply = message (reply_to (resolver_answered r) (answering.answer_body vs))
 
-      part : FirstPart schema o.end (answering.answering_line r.seq vs ∷ []) (behind_outbox o.end reply) (record (answering.without_resolver by o.end) { outbox = [] }) quiet
+      part : FirstPart schema o.end (answering.answering_line r.seq vs ∷ []) (after_outbox o.end reply) (record (answering.without_resolver by o.end) { outbox = [] }) quiet
       part = Parts.answers by vs r row (ap (λ (x : End). answering.answered_row schema x by) same ∙ found) (ap (λ (x : End). answering.may_answer schema x row vs) same ∙ may) (ap (λ (x : End). answering.answer_refusal schema x row by vs) same ∙ ok) (ap (λ (x : End). answering.resolver_used x by) same ∙ used)
 
-      cases : (by : Answering) → FirstPart schema o.end (answering.answering_line r.seq vs ∷ []) (behind_outbox o.end reply) (record (answering.without_resolver by o.end) { outbox = [] }) quiet → Makes (FirstPart schema o.end) (answering.resolved by vs r) o quiet
-      cases (handled seq) part = made (FirstPart schema o.end) (answering.resolved (handled seq) vs r) o quiet (answering.answering_line r.seq vs ∷ []) (behind_outbox o.end reply) part refl (put-packets o.packets o.end reply) refl
-      cases (kept name number) part = made (FirstPart schema o.end) (answering.resolved (kept name number) vs r) o quiet (answering.answering_line r.seq vs ∷ []) (behind_outbox o.end reply) part refl (put-packets o.packets o.end reply) refl
+      cases : (by : Answering) → FirstPart schema o.end (answering.answering_line r.seq vs ∷ []) (after_outbox o.end reply) (record (answering.without_resolver by o.end) { outbox = [] }) quiet → Makes (FirstPart schema o.end) (answering.resolved by vs r) o quiet
+      cases (handled seq) part = made (FirstPart schema o.end) (answering.resolved (handled seq) vs r) o quiet (answering.answering_line r.seq vs ∷ []) (after_outbox o.end reply) part refl (put-packets o.packets o.end reply) refl
+      cases (kept name number) part = made (FirstPart schema o.end) (answering.resolved (kept name number) vs r) o quiet (answering.answering_line r.seq vs ∷ []) (after_outbox o.end reply) part refl (put-packets o.packets o.end reply) refl
 
   refused-line : (cause : SendRefusal) (vs : Option Values) → IsRefusal schema (answering.refused_line cause vs)
   refused-line cause None = tt
@@ -236,14 +236,14 @@ module _ (schema : Schema) where
         q,
         made-as (OwnParts schema o.end) (act.close_unless None) (begins ▷ fall.closed NormalShutdown) o q refl
             (closed-made NormalShutdown begins o
-            (made (FirstPart schema o.end) (begins ▷ on_end shut_end) o (shutting NormalShutdown) (what.Close ∷ []) (behind_outbox o.end (message act.goodbye)) (Parts.closes both.0 both.1) refl (put-packets o.packets o.end (message act.goodbye)) refl)),
+            (made (FirstPart schema o.end) (begins ▷ on_end shut_end) o (shutting NormalShutdown) (what.Close ∷ []) (after_outbox o.end (message act.goodbye)) (Parts.closes both.0 both.1) refl (put-packets o.packets o.end (message act.goodbye)) refl)),
       )
 
   abbrev leaving : Change
   leaving = on_end (λ e. record e { state = Dead; stack = []; arrived = [] })
 
   dies-at : (b : Bool) (o : Output) → is_open o.end.state ≡ b → is_dead_end o.end.state ≡ false → Makes (FirstPart schema o.end) (line what.Die ▷ when b (put mark) ▷ leaving) o quiet
-  dies-at true o is alive = made (FirstPart schema o.end) (line what.Die ▷ when true (put mark) ▷ leaving) o quiet (what.Die ∷ []) (behind_outbox o.end mark) (Parts.dies is) refl (put-packets o.packets o.end mark) refl
+  dies-at true o is alive = made (FirstPart schema o.end) (line what.Die ▷ when true (put mark) ▷ leaving) o quiet (what.Die ∷ []) (after_outbox o.end mark) (Parts.dies is) refl (put-packets o.packets o.end mark) refl
   dies-at false o is alive = made (FirstPart schema o.end) (line what.Die ▷ when false (put mark) ▷ leaving) o quiet (what.Die ∷ []) [] (Parts.dies_silent is alive) refl (sym (append-nil o.packets)) refl
 
   pub die-made : (o : Output) → is_dead_end o.end.state ≡ false → Makes (FirstPart schema o.end) act.die o quiet

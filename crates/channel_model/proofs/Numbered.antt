@@ -20,7 +20,7 @@ use Rattle.channel_model.specs.Events.{Answering, handled, kept}
 use Rattle.channel_model.specs.Falls.{passes, rejected_entry, rejected}
 use Rattle.channel_model.specs.Numbers.{seq_of, makes_promise}
 use Rattle.channel_model.specs.Parts
-use Rattle.channel_model.specs.Parts.{FirstPart, LaterPart, DeliveryPart, end_behind, falling, fallen_end, promise_for, sent_end}
+use Rattle.channel_model.specs.Parts.{FirstPart, LaterPart, DeliveryPart, end_after, falling, fallen_end, promise_for, sent_end}
 use Rattle.channel_model.specs.Phases.{Phase}
 use Rattle.channel_model.specs.Requests.{Requests, promise_seq, requests_of, IsSeqOf, AreNumbered}
 use Rattle.channel_model.specs.Sends as sends
@@ -101,9 +101,9 @@ same-promised e promises same h = subst (λ (seqs : List ℤ). AreNumbered (reco
 fallen-numbered : (id : ℤ) (e : End) → AreNumbered (requests_of e) → AreNumbered (requests_of (fallen_end id e))
 fallen-numbered id e h = same-promised e (fallen_end id e).promises (rejected-seqs (λ p. lives p.actor (falling id e)) reason.ActorDestroyed e.promises) h
 
-behind-numbered : (b : Bool) (e : End) → AreNumbered (requests_of e) → AreNumbered (requests_of (end_behind b e))
-behind-numbered true e h = h
-behind-numbered false e h = h
+following-numbered : (b : Bool) (e : End) → AreNumbered (requests_of e) → AreNumbered (requests_of (end_after b e))
+following-numbered true e h = h
+following-numbered false e h = h
 
 used-numbered : (by : Answering) (e : End) → AreNumbered (requests_of e) → AreNumbered (requests_of (without_resolver by e))
 used-numbered (handled seq) e h = h
@@ -119,12 +119,12 @@ first-numbered (Parts.closes open_is none) h = h
 first-numbered (Parts.dies open_is) h = h
 first-numbered (Parts.dies_silent open_is alive) h = h
 first-numbered (Parts.takes m sync level row vs next body found stays) h = h
-first-numbered {e} (Parts.drops m sync level row vs id replies next body found gone is) h = behind-numbered replies (Parts.left_end e) h
+first-numbered {e} (Parts.drops m sync level row vs id replies next body found gone is) h = following-numbered replies (Parts.left_end e) h
 first-numbered (Parts.drops_unknown m sync level vs next body none) h = h
 first-numbered (Parts.takes_reply m sync level a next body late) h = h
 first-numbered {schema} {e} (Parts.settles m sync level row a next body found is) h = same-promised (Parts.left_end e) _ (settled-seqs m.seq (Parts.reply_outcome schema e row a) e.promises) h
 first-numbered (Parts.shuts last next is) h = h
-first-numbered {e} (Parts.returns entry row vs told lost returns t l) h = let off : End = record e { stack = drop 1 e.stack } in behind-numbered lost (end_behind told off) (behind-numbered told off h)
+first-numbered {e} (Parts.returns entry row vs told lost returns t l) h = let off : End = record e { stack = drop 1 e.stack } in following-numbered lost (end_after told off) (following-numbered told off h)
 first-numbered (Parts.resumes wait row on_top found) h = h
 
 later-numbered : {p q : Phase} {e f : End} {ws : List What} {ps : List Packet} → LaterPart p e ws ps f q → AreNumbered (requests_of e) → AreNumbered (requests_of f)
@@ -139,7 +139,7 @@ later-numbered {e} (Parts.falls why cause) h = fallen-numbered _ (Parts.abandone
 
 delivery-numbered : {schema : Schema} {packet : Packet} {p : Phase} {e f : End} {ws : List What} {ps : List Packet} → DeliveryPart schema packet e ws ps f p → AreNumbered (requests_of e) → AreNumbered (requests_of f)
 delivery-numbered (Parts.gets_request m row vs body found none) h = h
-delivery-numbered {e} (Parts.replaces m row vs old sync level replies body found rep is) h = behind-numbered replies (delivery.counted row (delivery.item_of row m) e) h
+delivery-numbered {e} (Parts.replaces m row vs old sync level replies body found rep is) h = following-numbered replies (delivery.counted row (delivery.item_of row m) e) h
 delivery-numbered (Parts.gets_answer m row a body found sync) h = h
 delivery-numbered (Parts.gets_reply m row a body found async) h = h
 delivery-numbered (Parts.drains packet is) h = h

@@ -1,4 +1,4 @@
--- What values say of types and actors does not hang on where their boxes lie.
+-- The types and actors of values do not depend on where their boxes are.
 use Rattle.std.proofs.Common.{◌≡◌, ℤ, pos, Bool, true, false, not, ◌&&◌, cond, is_some, List, [], ◌∷◌, ◌++◌, Option, Some, None, refl, ap, ◌∙◌, unwrap_or, find, option_map}
 use Rattle.std.specs.List.{list_any}
 use Rattle.std.specs.Option.{option_map_or}
@@ -82,7 +82,7 @@ missing-plain schema actors types vs = λ i. option_map (λ a. a.id) (find (λ (
 has_dead-plain : (schema : Schema) (actors : List Actor) (types : List ParamRow) (vs : Values) → has_dead schema actors types (plain_values vs) ≡ has_dead schema actors types vs
 has_dead-plain schema actors types vs = λ i. list_any (λ (a : ActorValue). not (int_eq a.id (pos 0)) && is_dead actors a) (actors_in_parts-plain schema types vs i)
 
--- a function behind a choice
+-- a function applied after a choice
 through : {A B C : Type 0} (g : B → C) (f : A → B) (h : A → C) (o : Option A) (d : B) → ((x : A) → h x ≡ g (f x)) → option_map_or h o (g d) ≡ g (option_map_or f o d)
 through g f h None d e = refl
 through g f h (Some x) d e = e x

@@ -1,4 +1,4 @@
--- What holds of a step that is possible.
+-- Properties of a step that is possible.
 use Rattle.std.proofs.Common.{◌≡◌, Bool, true, false, Option, Some, None, refl, subst, option_and_then}
 use Rattle.std.proofs.lemmas.Option.{same_Some}
 use Rattle.channel_model.specs.Ends.{End}

@@ -1,4 +1,4 @@
--- What every step keeps of an end holds of both ends in every run.
+-- What every step keeps of an end is true of both ends in every run.
 use Rattle.std.proofs.Common.{◌≡◌, List, [], ◌∷◌, Option, Some, None, refl}
 use Rattle.ipdl_base.specs.declared.kinds.Side.{Side}
 use Rattle.ipdl_base.specs.declared.kinds.Side.TheVariants.{Parent, Child}

@@ -39,7 +39,7 @@ lives-found : (protocol : ℕ) (found : Option Actor) → option_map_or (λ (a :
 lives-found protocol None e = cc
 lives-found protocol (Some a) e = refl
 
--- who lives as one of a protocol lives
+-- an actor that lives as one of a protocol lives
 pub lives-as : (actors : List Actor) (protocol : ℕ) (id : ℤ) → lives_as actors protocol id ≡ true → lives id actors ≡ true
 lives-as actors protocol id e = lives-found protocol (actor_of id actors) e
 
@@ -112,7 +112,7 @@ module _ (schema : Schema) where
       let s : Sends row.lazy (is_sync_row row) (makes_promise row) row m w (beginning e) = request-sends row.lazy (is_sync_row row) (makes_promise row) row m w (beginning e) in
       made-at (FirstPart schema e) (request_sent row.lazy (is_sync_row row) (makes_promise row) row m w) (beginning e) (sending row m) (w ∷ []) (request_packets row.lazy e m) (sent_end row m e) (Parts.sends row route vs name sent) s.end_is s.lines_are s.packets_are refl
 
-  -- what follows of a request of a kind
+  -- the rest of the step for a request of a kind
   finish : (row : MessageRow) (m : Message) (name : Option (List ℕ)) (kind : Kind) (o : Output) → row.kind ≡ kind → lives m.route o.end.actors ≡ true
       → (q : Phase) × Makes (LaterParts (sending row m) o.end) (send.names_actor m.made name ▷ send.constructs m.made m.route kind ▷ fall.deletes m.route kind) o q × IsOver q
   finish row m name Normal o is alive =

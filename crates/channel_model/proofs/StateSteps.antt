@@ -1,4 +1,4 @@
--- Every step keeps what the state of an end says: part by part.
+-- After every step an end is as its state requires, part by part.
 use Rattle.std.proofs.Common.{◌≡◌, ℤ, ℕ, Bool, true, false, not, ◌&&◌, ◌||◌, ◌⊎◌, inl, inr, cond, if◌then◌else◌, List, [], ◌∷◌, ◌++◌, drop, find, map, is_some, Option, Some, None, refl, sym, ap, subst, ◌∙◌}
 use Rattle.std.specs.List.{AllByRecursion}
 use Rattle.std.proofs.lemmas.Option.{same_Some}
@@ -26,7 +26,7 @@ use Rattle.nesting_core.specs.Top.{top_of}
 use Rattle.pending_queue.specs.declared.item.Item.{Item}
 use Rattle.pending_queue.specs.declared.item.Item.TheVariants as item
 use Rattle.pending_queue.specs.Compression.{staying}
-use Rattle.pending_queue.specs.Holding.{is_free, without_first}
+use Rattle.pending_queue.specs.DeferralContext.{is_free, without_first}
 use Rattle.promise_table.specs.declared.promise.Outcome.{Outcome}
 use Rattle.promise_table.specs.declared.promise.Promise.{Promise}
 use Rattle.promise_table.specs.Promises.{has_number, is_pending}
@@ -38,10 +38,11 @@ use Rattle.channel_model.specs.Deliveries.{with_failed_wait, failed}
 use Rattle.channel_model.specs.Ends.{End, Packet, StackEntry, PromiseEntry, Naming}
 use Rattle.channel_model.specs.Events.{Answering, handled, kept}
 use Rattle.channel_model.specs.Falls.{passes, rejected_entry, rejected}
-use Rattle.channel_model.specs.Numbers.{top_id, protocol_of}
+use Rattle.ipdl_base.specs.Sides.{top_id}
+use Rattle.channel_model.specs.Numbers.{protocol_of}
 use Rattle.channel_model.specs.Outputs.{is_open, is_closed, is_dead_end, body_of}
 use Rattle.channel_model.specs.Parts
-use Rattle.channel_model.specs.Parts.{FirstPart, LaterPart, LaterParts, OwnParts, DeliveryPart, end_behind, left_end, falling, fallen_end, abandoned_end, shut_reason, farewell_item}
+use Rattle.channel_model.specs.Parts.{FirstPart, LaterPart, LaterParts, OwnParts, DeliveryPart, end_after, left_end, falling, fallen_end, abandoned_end, shut_reason, farewell_item}
 use Rattle.channel_model.specs.Phases.{Phase, nobody, deletion, closing, manager_of}
 use Rattle.channel_model.specs.Sends as sends
 use Rattle.channel_model.specs.Sends.{frames_of}
@@ -56,7 +57,7 @@ use Rattle.channel_model.proofs.SendParts.{passed-first}
 use Rattle.channel_model.proofs.StepParts.{by-parts}
 use Rattle.channel_model.proofs.Sublists.{all-sublist, without_first-sublist, staying-sublist}
 
--- One end is as another is, as far as a state says: what it asks of the first holds of the second.
+-- What a state requires of the first end is true of the second.
 record Follows (e next : End) : Type 0 where
   state : next.state ≡ e.state
   arrived : next.arrived ≡ e.arrived
@@ -96,9 +97,9 @@ names-follow e names = record { state = refl; arrived = refl; outbox = λ x. x; 
 outbox-follows : (e : End) → Follows e (record e { outbox = [] })
 outbox-follows e = record { state = refl; arrived = refl; outbox = λ x. refl; waits = λ x. x; nobody = λ x. x; settled = λ x. x; stack = λ x. x }
 
-behind-follows : (b : Bool) (e : End) → Follows e (end_behind b e)
-behind-follows true e = outbox-follows e
-behind-follows false e = follows-same e
+following-follows : (b : Bool) (e : End) → Follows e (end_after b e)
+following-follows true e = outbox-follows e
+following-follows false e = follows-same e
 
 -- Promises and falls
 
@@ -203,7 +204,7 @@ not_both : {A : Type 0} (test : EndState → Bool) (state other : EndState) (b :
 not_both test state other true is first second = let e : true ≡ false = sym second ∙ ap test is ∙ first in cc
 not_both test state other false is first second = let e : false ≡ true = sym second ∙ ap test is ∙ first in cc
 
--- an open end is one to which no farewell has come
+-- an open end has received no farewell
 open-in_state : (e : End) → e.state ≡ Open → AllByRecursion IsOrdinary e.arrived → IsInState e
 open-in_state e is h = record {
   arrived = subst (λ (s : EndState). HasArrived s e.arrived) (sym is) h;
@@ -274,8 +275,8 @@ taken_next-is true true found x e = (refl, e)
 taken_next-is true false found x e = cc
 taken_next-is false b found x e = cc
 
--- What the state of an end says in a phase: it closes still, and has let go of all but promises and actors; or what it says
--- between steps holds.
+-- What the state of an end requires in a phase: the end still closes, and has dropped all but promises and actors; or
+-- it is as required between steps.
 record IsShut (e : End) : Type 0 where
   state : e.state ≡ Closed
   arrived : e.arrived ≡ []
@@ -287,7 +288,7 @@ IsInPhase p e = (((why : Destroy) × (p.due ≡ closing why)) × IsShut e) ⊎ I
 
 -- Later parts
 
--- a part of which nothing that the state speaks of hangs on
+-- a part that changes nothing on which the state's requirements depend
 shut-follows : (e f : End) → f.state ≡ e.state → f.arrived ≡ e.arrived → (e.outbox ≡ [] → f.outbox ≡ []) → (AllByRecursion IsAnswered (frames_of e) → AllByRecursion IsAnswered (frames_of f)) → IsShut e → IsShut f
 shut-follows e f state arrived outbox waits h = record { state = state ∙ h.state; arrived = arrived ∙ h.arrived; outbox = outbox h.outbox; waits = waits h.waits }
 
@@ -295,7 +296,7 @@ phase-follows : (p q : Phase) (e f : End) → q.due ≡ p.due → Follows e f �
 phase-follows p q e f same k (inl h) = inl ((h.0.0, same ∙ h.0.1), shut-follows e f k.state k.arrived k.outbox k.waits h.1)
 phase-follows p q e f same k (inr h) = inr (follows-in_state e f k h)
 
--- nobody lives where an actor is built, and so nobody manages it
+-- no actor lives where an actor is built, and so no actor manages it
 nobody-builds : (e : End) (id manager : ℤ) (more : List Actor) → lives manager e.actors ≡ true → e.actors ≡ [] → e.actors ++ more ≡ []
 nobody-builds e id manager more alive none = let k : false ≡ true = ap (lives manager) (sym none) ∙ alive in cc
 
@@ -326,16 +327,16 @@ later-state {p} {q} {e} (Parts.falls why due) tree (inr h) =
 
 -- First parts
 
--- the state in which an item is taken, and what that says
+-- the state in which an item is taken, and what that state requires
 record Taken (e : End) (x : Item) : Type 0 where
-  found : find (is_free (takes.holding_of e)) e.arrived ≡ Some x
+  found : find (is_free (takes.deferral_context_of e)) e.arrived ≡ Some x
   takes_in : takes.takes_in_state e.state ≡ true
 
 taken : (e : End) (x : Item) → takes.taken_next e ≡ Some x → Taken e x
 taken e x next = let r = taken_next-is (takes.takes_in_state e.state) (takes.takes_under (top_of (frames_of e))) (takes.first_free e) x next in record { found = r.1; takes_in = r.0 }
 
 left-state : (e : End) (x : Item) → takes.taken_next e ≡ Some x → is_farewell x ≡ false → IsInState e → IsInState (left_end e)
-left-state e x next ordinary h = let t : Taken e x = taken e x next in without_item e (is_free (takes.holding_of e)) x t.takes_in t.found ordinary h
+left-state e x next ordinary h = let t : Taken e x = taken e x next in without_item e (is_free (takes.deferral_context_of e)) x t.takes_in t.found ordinary h
 
 reply-ordinary : (m : Message) (a : Answer) → m.body ≡ body_of a → is_goodbye m.body ≡ false
 reply-ordinary m (answer.Ok vs) body = ap is_goodbye body
@@ -357,23 +358,23 @@ first-state {schema} {p} {e} (Parts.takes m sync level row vs next body found st
     let k : IsInState (left_end e) = left-state e (item.Message m sync level) next (ap is_goodbye body) h in
     let alive = (not_closed e.state (taken e (item.Message m sync level) next).takes_in).1 in
     inr (record { arrived = k.arrived; outbox = k.outbox; waits = λ x. (refl, k.waits x); nobody = k.nobody; settled = k.settled; stack = λ died. let c : false ≡ true = sym alive ∙ died in cc })
-first-state {schema} {p} {e} (Parts.drops m sync level row vs id replies next body found gone is) h = inr (follows-in_state (left_end e) _ (behind-follows replies (left_end e)) (left-state e (item.Message m sync level) next (ap is_goodbye body) h))
+first-state {schema} {p} {e} (Parts.drops m sync level row vs id replies next body found gone is) h = inr (follows-in_state (left_end e) _ (following-follows replies (left_end e)) (left-state e (item.Message m sync level) next (ap is_goodbye body) h))
 first-state {schema} {p} {e} (Parts.drops_unknown m sync level vs next body none) h = inr (left-state e (item.Message m sync level) next (ap is_goodbye body) h)
 first-state {schema} {p} {e} (Parts.takes_reply m sync level a next body late) h = inr (left-state e (item.Message m sync level) next (reply-ordinary m a body) h)
 first-state {schema} {p} {e} (Parts.settles m sync level row a next body found is) h =
     inr (follows-in_state (left_end e) _ (promises-follow (left_end e) _ (settled_map m.seq (Parts.reply_outcome schema e row a) e.promises)) (left-state e (item.Message m sync level) next (reply-ordinary m a body) h))
 first-state {schema} {p} {e} (Parts.shuts last next is) h =
-    let ends : is_open e.state ≡ false = farewell-ends e.state (is_free (takes.holding_of e)) e.arrived last h.arrived (taken e last next).found is in
+    let ends : is_open e.state ≡ false = farewell-ends e.state (is_free (takes.deferral_context_of e)) e.arrived last h.arrived (taken e last next).found is in
     inl ((shut_reason last, refl), record { state = refl; arrived = refl; outbox = h.outbox ends; waits = h.waits ends })
 first-state {schema} {p} {e} (Parts.returns entry row vs told lost returns t l) h =
     let off : End = record e { stack = drop 1 e.stack } in
-    inr (follows-in_state e _ (follows-chain e off _ (popped-follows e) (follows-chain off (end_behind told off) _ (behind-follows told off) (behind-follows lost (end_behind told off)))) h)
+    inr (follows-in_state e _ (follows-chain e off _ (popped-follows e) (follows-chain off (end_after told off) _ (following-follows told off) (following-follows lost (end_after told off)))) h)
 first-state {schema} {p} {e} (Parts.resumes wait row on_top found) h = inr (follows-in_state e _ (popped-follows e) h)
 
 -- Deliveries
 
-behind-open : (b : Bool) (e : End) → e.state ≡ Open → AllByRecursion IsOrdinary e.arrived → IsInState (end_behind b e)
-behind-open b e is h = follows-in_state e (end_behind b e) (behind-follows b e) (open-in_state e is h)
+following-open : (b : Bool) (e : End) → e.state ≡ Open → AllByRecursion IsOrdinary e.arrived → IsInState (end_after b e)
+following-open b e is h = follows-in_state e (end_after b e) (following-follows b e) (open-in_state e is h)
 
 last-ordinary : (items : List Item) (new : Item) → AllByRecursion IsOrdinary items → is_farewell new ≡ false → AllByRecursion IsOrdinary (items ++ new ∷ [])
 last-ordinary items new h k = all-append IsOrdinary items (new ∷ []) h (k, tt)
@@ -385,7 +386,7 @@ counted-ordinary e row m ordinary h =
 
 delivery-state : {schema : Schema} {packet : Packet} {p : Phase} {e f : End} {ws : List What} {ps : List Packet} → DeliveryPart schema packet e ws ps f p → e.state ≡ Open → AllByRecursion IsOrdinary e.arrived → IsInState f
 delivery-state {e} (Parts.gets_request m row vs body found none) is h = open-in_state (delivery.counted row (delivery.item_of row m) e) is (counted-ordinary e row m (ap is_goodbye body) h)
-delivery-state {e} (Parts.replaces m row vs old sync level replies body found rep k) is h = behind-open replies (delivery.counted row (delivery.item_of row m) e) is (counted-ordinary e row m (ap is_goodbye body) h)
+delivery-state {e} (Parts.replaces m row vs old sync level replies body found rep k) is h = following-open replies (delivery.counted row (delivery.item_of row m) e) is (counted-ordinary e row m (ap is_goodbye body) h)
 delivery-state {e} (Parts.gets_answer m row a body found sync) is h = open-in_state (delivery.answers_wait a e) is h
 delivery-state {e} (Parts.gets_reply m row a body found async) is h = open-in_state (delivery.arrives (delivery.item_of row m) e) is (last-ordinary e.arrived (delivery.item_of row m) h (reply-ordinary m a body))
 delivery-state {e} (Parts.drains packet last) is h = record {

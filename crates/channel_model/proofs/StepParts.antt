@@ -42,7 +42,7 @@ own-step schema e change q a = made-step (OwnParts schema e) e change q a
 alone-step : (schema : Schema) (e : End) (change : Change) (q : Phase) → Makes (FirstPart schema e) change (beginning e) q → IsOver q → Own schema e (change (beginning e))
 alone-step schema e change q a over = own-step schema e change q (made-alone schema q change (beginning e) a over)
 
--- an actor or none
+-- an actor, or no content
 no_resolver : (b : Bool) (id : _) → NoResolver (if b then Some (actor id) else None)
 no_resolver true id = tt
 no_resolver false id = tt
@@ -98,7 +98,7 @@ steps_are_made_of_parts schema e link event.flush output is =
 
 -- What parts give
 
--- what a step is made of gives what is wanted of it
+-- what is true of the parts of a step is true of the step
 pub by-parts : (schema : Schema) (e : End) (link : List Packet) (happened : Event) (output : Output) (P : Type 0) → step schema e link happened ≡ Some output
     → (IsMadeOf (OwnParts schema e) e.side output → P) → (happened ≡ event.deliver → IsDeliveryOfOnePart schema e link output → P) → P
 by-parts schema e link happened output P is own delivered = by happened refl (steps_are_made_of_parts schema e link happened output is)

@@ -6,7 +6,7 @@ use Rattle.ipdl_base.specs.declared.kinds.Compress.{Compress}
 use Rattle.ipdl_base.specs.declared.kinds.Compress.TheVariants.{Plain, Last, All}
 use Rattle.pending_queue.specs.declared.item.Item.{Item}
 use Rattle.pending_queue.specs.Compression.{are_alike, replaced, staying, without_latest}
-use Rattle.pending_queue.specs.Holding.{without_first}
+use Rattle.pending_queue.specs.DeferralContext.{without_first}
 use Rattle.channel_model.specs.Actors.{AreDistinct}
 
 -- the first list has some elements of the second, in their order
@@ -75,22 +75,22 @@ staying-sublist Last new items = elim (is_some (replaced Last new items)) as (λ
 ]
 staying-sublist All new items = without_latest-sublist (are_alike new) items
 
--- An item that is taken out, with what stands before and behind it in a list that is made of the items
+-- An item that is taken out, with what is before and after it in a list that is made of the items
 
 pub record TakenOut {B : Type 0} (f : Item → List B) (test : Item → Bool) (items : List Item) (x : Item) : Type 0 where
   pub before : List B
-  pub behind : List B
-  pub whole : flat_map f items ≡ before ++ (f x ++ behind)
-  pub rest : flat_map f (without_first test items) ≡ before ++ behind
+  pub following : List B
+  pub whole : flat_map f items ≡ before ++ (f x ++ following)
+  pub rest : flat_map f (without_first test items) ≡ before ++ following
 
-found-out : {B : Type 0} (f : Item → List B) (test : Item → Bool) (b : Bool) (y : Item) (ys : List Item) (x : Item) → cond b (Some y) (find test ys) ≡ Some x → ((k : find test ys ≡ Some x) → TakenOut f test ys x) → (before : List B) × ((behind : List B) × ((f y ++ flat_map f ys ≡ before ++ (f x ++ behind)) × (flat_map f (cond b ys (y ∷ without_first test ys)) ≡ before ++ behind)))
+found-out : {B : Type 0} (f : Item → List B) (test : Item → Bool) (b : Bool) (y : Item) (ys : List Item) (x : Item) → cond b (Some y) (find test ys) ≡ Some x → ((k : find test ys ≡ Some x) → TakenOut f test ys x) → (before : List B) × ((following : List B) × ((f y ++ flat_map f ys ≡ before ++ (f x ++ following)) × (flat_map f (cond b ys (y ∷ without_first test ys)) ≡ before ++ following)))
 found-out f test true y ys x e k = ([], (flat_map f ys, (ap (λ (z : Item). f z ++ flat_map f ys) (same_Some y x e), refl)))
 found-out f test false y ys x e k =
     let t : TakenOut f test ys x = k e in
-    (f y ++ t.before, (t.behind, (ap (λ zs. f y ++ zs) t.whole ∙ sym (append_assoc (f y) t.before (f x ++ t.behind)), ap (λ zs. f y ++ zs) t.rest ∙ sym (append_assoc (f y) t.before t.behind))))
+    (f y ++ t.before, (t.following, (ap (λ zs. f y ++ zs) t.whole ∙ sym (append_assoc (f y) t.before (f x ++ t.following)), ap (λ zs. f y ++ zs) t.rest ∙ sym (append_assoc (f y) t.before t.following))))
 
 pub taken_out : {B : Type 0} (f : Item → List B) (test : Item → Bool) (items : List Item) (x : Item) → find test items ≡ Some x → TakenOut f test items x
 taken_out f test [] x e = cc
 taken_out f test (y ∷ ys) x e =
     let r = found-out f test (test y) y ys x e (taken_out f test ys x) in
-    record { before = r.0; behind = r.1.0; whole = r.1.1.0; rest = r.1.1.1 }
+    record { before = r.0; following = r.1.0; whole = r.1.1.0; rest = r.1.1.1 }

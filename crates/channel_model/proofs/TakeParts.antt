@@ -27,7 +27,7 @@ use Rattle.channel_model.specs.Falls as fall
 use Rattle.channel_model.specs.Numbers.{protocol_of, is_sync_row}
 use Rattle.channel_model.specs.Outputs.{Output, Change, ◌▷◌, unchanged, when, on_end, line, is_open, AnsweredRequest, answered, request_answered, resolver_answered, body_of}
 use Rattle.channel_model.specs.Parts
-use Rattle.channel_model.specs.Parts.{FirstPart, LaterParts, OwnParts, IsReturn, behind_outbox, reply_packet, reply_lines, reply_packets, end_behind, left_end, shut_end, shut_line, shut_reason, owes_reply, is_settling}
+use Rattle.channel_model.specs.Parts.{FirstPart, LaterParts, OwnParts, IsReturn, after_outbox, reply_packet, reply_lines, reply_packets, end_after, left_end, shut_end, shut_line, shut_reason, owes_reply, is_settling}
 use Rattle.channel_model.specs.Phases.{Phase, kind_cause, quiet, taking, returning, shutting, IsOver}
 use Rattle.channel_model.specs.Returns as return
 use Rattle.channel_model.specs.Sends as send
@@ -72,7 +72,7 @@ module _ (schema : Schema) where
   dropped-at : (m : Message) (sync : Bool) (level : Level) (row : MessageRow) (vs : Values) (id : ℤ) (owes b : Bool) (o : Output) → take.taken_next o.end ≡ Some (item.Message m sync level) → m.body ≡ Request vs → message_of schema m.number ≡ Some row → take.dropped_for schema o.end row m vs ≡ Some id → owes_reply row ≡ owes → is_open o.end.state ≡ b
       → Makes (FirstPart schema o.end) (dropping m id owes b) o quiet
   dropped-at m sync level row vs id true true o next body found gone is open_is =
-      made (FirstPart schema o.end) (dropping m id true true) o quiet (what.Drop m.seq m.route m.number id ∷ what.AnswerFault m.seq reason.ActorDestroyed ∷ []) (behind_outbox o.end (reply_packet (request_answered m) (answer.Fault reason.ActorDestroyed)))
+      made (FirstPart schema o.end) (dropping m id true true) o quiet (what.Drop m.seq m.route m.number id ∷ what.AnswerFault m.seq reason.ActorDestroyed ∷ []) (after_outbox o.end (reply_packet (request_answered m) (answer.Fault reason.ActorDestroyed)))
       (Parts.drops m sync level row vs id true next body found gone (sym (ap (λ (c : Bool). c && owes_reply row) open_is ∙ is))) (append_assoc o.lines (_ ∷ []) (_ ∷ [])) (put-packets o.packets o.end (reply_packet (request_answered m) (answer.Fault reason.ActorDestroyed))) refl
   dropped-at m sync level row vs id true false o next body found gone is open_is =
       made (FirstPart schema o.end) (dropping m id true false) o quiet (what.Drop m.seq m.route m.number id ∷ []) []
@@ -199,22 +199,22 @@ module _ (schema : Schema) where
       whats told lost = what.Return (head_of entry.frame).seq ∷ reply_lines told q a ++ reply_lines lost r c
 
       packets : Bool → Bool → List Packet
-      packets told lost = reply_packets told o.end q a ++ reply_packets lost (end_behind told o.end) r c
+      packets told lost = reply_packets told o.end q a ++ reply_packets lost (end_after told o.end) r c
 
-      part : (told lost : Bool) → told ≡ (is_open e.state && is_sync_row row) → lost ≡ (is_open e.state && entry.resolves) → FirstPart schema o.end (whats told lost) (packets told lost) (end_behind lost (end_behind told (record o.end { stack = drop 1 o.end.stack }))) (returning row entry.route)
+      part : (told lost : Bool) → told ≡ (is_open e.state && is_sync_row row) → lost ≡ (is_open e.state && entry.resolves) → FirstPart schema o.end (whats told lost) (packets told lost) (end_after lost (end_after told (record o.end { stack = drop 1 o.end.stack }))) (returning row entry.route)
       part told lost t l =
-          subst (λ (x : End). FirstPart schema x (whats told lost) (reply_packets told x q a ++ reply_packets lost (end_behind told x) r c) (end_behind lost (end_behind told (record x { stack = drop 1 x.stack }))) (returning row entry.route)) (sym same)
+          subst (λ (x : End). FirstPart schema x (whats told lost) (reply_packets told x q a ++ reply_packets lost (end_after told x) r c) (end_after lost (end_after told (record x { stack = drop 1 x.stack }))) (returning row entry.route)) (sym same)
           (Parts.returns entry row vs told lost returns t l)
 
       by : (told lost : Bool) → told ≡ (is_open e.state && is_sync_row row) → lost ≡ (is_open e.state && entry.resolves) → Makes (FirstPart schema o.end) (begins told lost) o (returning row entry.route)
       by true true t l =
           made (FirstPart schema o.end) (begins true true) o (returning row entry.route) (whats true true) (packets true true) (part true true t l)
           (append_assoc (o.lines ++ _ ∷ []) (_ ∷ []) (_ ∷ []) ∙ append_assoc o.lines (_ ∷ []) (_ ∷ _ ∷ []))
-          (put-packets (answering q a o).packets (answering q a o).end (reply_packet r c) ∙ ap (λ (ps : List Packet). ps ++ reply_packet r c ∷ []) (put-packets o.packets o.end (reply_packet q a)) ∙ append_assoc o.packets (behind_outbox o.end (reply_packet q a)) (reply_packet r c ∷ [])) refl
+          (put-packets (answering q a o).packets (answering q a o).end (reply_packet r c) ∙ ap (λ (ps : List Packet). ps ++ reply_packet r c ∷ []) (put-packets o.packets o.end (reply_packet q a)) ∙ append_assoc o.packets (after_outbox o.end (reply_packet q a)) (reply_packet r c ∷ [])) refl
       by true false t l =
           made (FirstPart schema o.end) (begins true false) o (returning row entry.route) (whats true false) (packets true false) (part true false t l)
           (append_assoc o.lines (_ ∷ []) (_ ∷ []))
-          (put-packets o.packets o.end (reply_packet q a) ∙ ap (λ (ps : List Packet). o.packets ++ ps) (sym (append-nil (behind_outbox o.end (reply_packet q a))))) refl
+          (put-packets o.packets o.end (reply_packet q a) ∙ ap (λ (ps : List Packet). o.packets ++ ps) (sym (append-nil (after_outbox o.end (reply_packet q a))))) refl
       by false true t l =
           made (FirstPart schema o.end) (begins false true) o (returning row entry.route) (whats false true) (packets false true) (part false true t l)
           (append_assoc o.lines (_ ∷ []) (_ ∷ [])) (put-packets o.packets o.end (reply_packet r c)) refl

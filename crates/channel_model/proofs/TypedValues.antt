@@ -1,4 +1,4 @@
--- Nulls keep types, and typed values hold just the ids that their actors have.
+-- Nulls keep types, and typed values have exactly the ids of their actors.
 use Rattle.std.proofs.Common.{◌≡◌, ℤ, Bool, true, false, ◌&&◌, List, [], ◌∷◌, ◌++◌, map, unwrap_or, is_some, if◌then◌else◌, Option, Some, None, refl, sym, ap, ◌∙◌}
 use Rattle.std.specs.Option.{option_map_or}
 use Rattle.std.proofs.lemmas.List.{map-append}
@@ -28,7 +28,7 @@ both-same a b c d e f = ap (λ (x : Bool). x && b) e ∙ ap (λ (x : Bool). c &&
 -- Nulls keep types
 
 module _ (schema : Schema) (actors : List LivingActor) where
-  -- what is found of a type, if anything, is the same for the test and for the nulls
+  -- what is found for a type, if anything, is the same for the test and for the nulls
   found-typed : {A B : Type 0} (found : Option A) (test : A → B → Bool) (null : A → B → B) (x : B) → ((a : A) → test a (null a x) ≡ test a x) → option_map_or (λ a. test a (option_map_or (λ b. null b x) found x)) found false ≡ option_map_or (λ a. test a x) found false
   found-typed None test null x same = refl
   found-typed (Some a) test null x same = same a

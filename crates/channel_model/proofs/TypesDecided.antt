@@ -21,7 +21,7 @@ use Rattle.value_types.specs.Shapes.{range_of, float_bits, builtin_of, is_bytes,
 use Rattle.channel_model.specs.Laws.{DecidesTypes}
 use Rattle.channel_model.specs.Typed.{is_bool, is_text, is_within, is_in_range, is_within_bits, is_actor_of, has_type, held_has_type, all_have_type, have_types}
 
--- a test of what there is decides a fact of it
+-- a test of an optional value decides a fact of it
 some_decides : {A : Type 0} (o : Option A) (f : A → Bool) (P : A → Type 0) → ((x : A) → Decides (f x) (P x)) → Decides (option_map_or f o false) (IsSomeAnd o P)
 some_decides None f P h = (λ e. cc, λ none. absurd none)
 some_decides (Some x) f P h = h x

@@ -35,7 +35,7 @@ both_call : history_of waiting 0 moves.both_call ≡
     ∷ child (what.ResumeOk (negsuc 0) (a_number (pos 10))) ∷ []
 both_call = refl
 
--- Four calls inside one another, in one transaction, and a stray one that waits for all of them.
+-- Four calls inside one another, in one transaction, and a stray call that waits for all of them.
 nested_calls : history_of waiting 0 moves.nested_calls ≡
     parent (what.Call (pos 1) (pos 1) top pw_call_c none)
     ∷ child (what.Call (negsuc 0) (negsuc 0) top pw_base none)
@@ -201,7 +201,7 @@ death_under_waits : history_of waiting 0 moves.death_under_waits ≡
     ∷ parent (what.Fall top destroy.AbnormalShutdown) ∷ []
 death_under_waits = refl
 
--- Requests that make way for later ones.
+-- Requests that later ones replace.
 compression : history_of pressing 0 moves.compression ≡
     child (what.Send (negsuc 0) top pc_up (a_number (pos 1)))
     ∷ child (what.Send (negsuc 1) top pc_up (a_number (pos 2)))
@@ -284,7 +284,7 @@ kept_resolver : history_of asking 0 moves.kept_resolver ≡
     ∷ child (what.Resolved (negsuc 0) (a_number (pos 5))) ∷ []
 kept_resolver = refl
 
--- An actor falls while messages to it and of it are under way.
+-- An actor falls while messages to it and from it are in transit.
 drops : history_of owning pown moves.drops ≡
     child (what.Send (negsuc 0) top pown_construct none)
     ∷ child (what.Built (pos 4) ptmp)

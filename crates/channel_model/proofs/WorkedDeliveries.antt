@@ -48,15 +48,15 @@ item_as_a_shop = refl
 shop_as_an_item : refusal (sent top pshop_swap (negsuc 0) (Request (an_actor top))) ≡ Some (wrong_actor top pshop_swap)
 shop_as_an_item = refl
 
--- an actor that does not live is no other one
+-- an actor that does not live is not another one
 fallen_actor : refusal (sent top pshop_swap (negsuc 0) (Request (an_actor (pos 10)))) ≡ None
 fallen_actor = refl
 
--- only the parent receives it
+-- only the parent receives this message
 own_message : packet_refusal asking (opening 0).child (message (sent top pq_tell (pos 1) (Request (a_number (pos 1))))) ≡ Some wrong_direction
 own_message = refl
 
--- replies: each has the number behind that of its request's message
+-- replies: each has the number after that of its request's message
 
 promised : refusal (sent top 65539 (pos 2) (Reply (an_actor (pos 6)))) ≡ None
 promised = refl
@@ -76,7 +76,7 @@ of_another_actor = refl
 shop_in_a_reply : refusal (sent top 65539 (pos 2) (Reply (an_actor top))) ≡ Some (wrong_actor top 65539)
 shop_in_a_reply = refl
 
--- a goodbye and a mark always come
+-- a goodbye and a mark are always accepted
 
 farewell : refusal goodbye ≡ None
 farewell = refl

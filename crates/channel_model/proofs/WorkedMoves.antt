@@ -1,4 +1,4 @@
--- Moves of worked cases. The lines that they make stand in `Worked`.
+-- Moves of worked cases. Their lines are in `Worked`.
 use Rattle.std.specs.Prelude.{pos, negsuc, List, [], ◌∷◌, Some, None, codes}
 use Rattle.ipdl_base.specs.declared.kinds.Side.TheVariants as side
 use Rattle.channel_model.specs.Events.{Event, Move}
@@ -27,7 +27,7 @@ both_call =
     ∷ child event.deliver
     ∷ child event.resume ∷ []
 
--- Four calls inside one another, in one transaction, and a stray one that waits for all of them.
+-- Four calls inside one another, in one transaction, and a stray call that waits for all of them.
 abbrev pub nested_calls : List Move
 nested_calls =
     parent (event.send top pw_call_c none None)
@@ -162,7 +162,7 @@ death_under_waits =
     ∷ parent event.resume
     ∷ parent event.take ∷ []
 
--- Requests that make way for later ones.
+-- Requests that later ones replace.
 abbrev pub compression : List Move
 compression =
     child (event.send top pc_up (a_number (pos 1)) None)
@@ -237,7 +237,7 @@ kept_resolver =
     ∷ parent (event.return None)
     ∷ child event.take ∷ []
 
--- An actor falls while messages to it and of it are under way.
+-- An actor falls while messages to it and from it are in transit.
 abbrev pub drops : List Move
 drops =
     child (event.send top pown_construct none (Some (codes "t")))

@@ -37,11 +37,11 @@ goodbye_drains = Parts.drains (message goodbye) refl
 abbrev unknown : Message
 unknown = record { route = top; number = 1000; seq = pos 1; transaction = pos 0; made = pos 0; body = Request none }
 
--- it prints its line and changes nothing
+-- the message prints its line and changes nothing
 unknown_passes_by : DeliveryPart waiting (message unknown) child (what.DeliverRequest (pos 1) ∷ []) [] child quiet
 unknown_passes_by = Parts.passes_by unknown refl refl
 
--- nothing is said, and nothing sent, where nothing is to follow
+-- nothing is printed, and nothing sent, where nothing more will follow
 silent-one : {p q : Phase} {e f : End} {ws : List What} {ps : List Packet} → LaterPart p e ws ps f q → p ≡ quiet → (ws ≡ []) × (ps ≡ []) × (q ≡ quiet)
 silent-one (Parts.unnames name may silent) is = let k : true ≡ false = sym may ∙ ap (λ (p : Phase). p.renames) is in cc
 silent-one (Parts.lets_go name r may held open_is) is = let k : true ≡ false = sym may ∙ ap (λ (p : Phase). p.renames) is in cc
@@ -61,7 +61,7 @@ quiet_is_silent (Parts.then {ws} {vs} {ps} {qs} part rest) is =
 
 -- What does not fit
 
--- a promise of a number that is no request's
+-- a promise with a number that is no request's
 reply_promise : ¬ FitsPromise waiting (record { promise = promises.made (pos 1) top; number = pw_call_p + 1 })
 reply_promise (row, kept, makes) = let k : None ≡ Some row = kept.found in cc
 
@@ -79,6 +79,6 @@ poke_as_a_call (fits, flags) = let k = flags refl in cc
 trader_is_to_settle : unsettled trader ≡ 4
 trader_is_to_settle = refl
 
--- its first step made an actor and said so: three more than it settled
+-- its first step made an actor and printed its line: three more than it settled
 first_step_adds : option_map_or (λ (output : Output). length output.lines + unsettled output.end) (step trading (opening_end pshop side.Parent) [] (event.send top pshop_construct none None)) 0 ≡ unsettled (opening_end pshop side.Parent) + 3
 first_step_adds = refl

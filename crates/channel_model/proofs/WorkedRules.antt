@@ -59,7 +59,7 @@ closed_in_a_handler : history_of waiting 0 close_in_a_handler ≡
     ∷ of_parent (what.Fall top destroy.NormalShutdown) ∷ []
 closed_in_a_handler = refl
 
--- A new actor takes the name of a kept resolver, which is answered behind the constructor.
+-- A new actor takes the name of a kept resolver, which is answered after the constructor.
 abbrev take_a_name : List Move
 take_a_name =
     child (event.send top pshop_find none None)
@@ -92,7 +92,7 @@ name_taken : history_of trading pshop take_a_name ≡
     ∷ of_child (what.Rejected (negsuc 0) reason.ResolverDestroyed) ∷ []
 name_taken = refl
 
--- Each refusal but those for what is too deep and too large.
+-- Each refusal except those for what is too deep and too large.
 abbrev be_refused : List Move
 be_refused =
     parent (event.send nobody pw_call_c none None)
@@ -162,8 +162,8 @@ stored : history_of trading pshop store ≡
     ∷ of_parent (what.RefusedSend refusal.TooLarge pshop_store) ∷ []
 stored = refl
 
--- What a closed end keeps is gone at once, an answer by a name that holds no resolver of the message finds none, and an
--- id that is not positive stands for no actor.
+-- What a closed end keeps is gone at once, an answer by a name that has no resolver of the message is refused, and an
+-- id that is not positive is no actor.
 abbrev keep_nothing : List Move
 keep_nothing =
     child (event.send top pq_get none None)
@@ -197,7 +197,7 @@ nothing_kept : history_of asking 0 keep_nothing ≡
     ∷ of_child (what.Fall top destroy.NormalShutdown) ∷ []
 nothing_kept = refl
 
--- A handler that returns an actor that it let fall gives no answer. A request for that actor is dropped.
+-- A handler that returns an actor whose fall it caused gives no answer. A request for that actor is dropped.
 abbrev return_the_fallen : List Move
 return_the_fallen =
     parent (event.send top pshop_construct none None)
@@ -248,7 +248,7 @@ fallen_returned : history_of trading pshop return_the_fallen ≡
     ∷ of_parent (what.Fall (pos 6) destroy.Deletion) ∷ []
 fallen_returned = refl
 
--- A promise is rejected where its answer holds an actor that has fallen, of a type that is not nullable.
+-- A promise is rejected if its answer contains an actor that has fallen, of a type that is not nullable.
 abbrev resolve_by_the_fallen : List Move
 resolve_by_the_fallen =
     parent (event.send top pshop_construct none None)
@@ -283,7 +283,7 @@ fallen_resolved : history_of trading pshop resolve_by_the_fallen ≡
     ∷ of_child (what.Rejected (negsuc 0) reason.ActorDestroyed) ∷ []
 fallen_resolved = refl
 
--- A top actor whose protocol has a destructor can be deleted. Nobody lives then at an end that is open.
+-- A top actor whose protocol has a destructor can be deleted. No actor lives then at an end that is open.
 top_deleted : history_of keeping pk (child (event.send top pk_delete none None) ∷ child (event.send top pk_get none None) ∷ child event.close ∷ []) ≡
     of_child (what.Send (negsuc 0) top pk_delete none)
     ∷ of_child (what.Fall top destroy.Deletion)
@@ -304,7 +304,7 @@ not_possible : history_of asking 0 (
     ≡ []
 not_possible = refl
 
--- When the worked case is over no end has anything left to do by itself, and before its last move the child has.
+-- After the worked case no end has anything left to do by itself, and before its last move the child has.
 rests : is_still waiting (run waiting worked.both_call (opening 0)).world ≡ true
 rests = refl
 

@@ -13,14 +13,15 @@ use Rattle.pending_queue.specs.Compression.{is_request}
 use Rattle.channel_model.specs.Ends.{End, Packet}
 use Rattle.channel_model.specs.Events.{Event}
 use Rattle.channel_model.specs.Events as event
-use Rattle.channel_model.specs.Numbers.{other, id_of, top_id, is_constructor}
+use Rattle.ipdl_base.specs.Sides.{other, top_id}
+use Rattle.channel_model.specs.Numbers.{id_of, is_constructor}
 use Rattle.channel_model.specs.Refusals.{packet_refusal}
 
 -- whether a number is that of a constructor
 abbrev pub constructs_by : Schema → ℕ → Bool
 constructs_by schema number = option_map_or (λ row. is_constructor row.kind) (message_of schema number) false
 
--- the new id of a constructor that has arrived
+-- the new id of a constructor that has arrived, in a list
 abbrev pub new_ids_in : Schema → Item → List ℤ
 new_ids_in schema item.Broken = []
 new_ids_in schema (item.Message m sync level) = if is_request m.body && constructs_by schema m.number then m.made ∷ [] else []
@@ -61,8 +62,8 @@ IsNew ids id = IsIdOf (other ids.side) ids.delivered id × (lives id ids.actors 
 abbrev pub IsTopOf : ℕ → Actor → Type 0
 IsTopOf protocol a = a.id ≡ top_id → a.protocol ≡ protocol
 
--- The living actors are a tree below the top actor, each with an id that is taken; and the constructors that have
--- arrived have ids that are taken, of nobody who lives, and of which no two are the same.
+-- The living actors are a tree below the top actor, each with an id that is taken. The constructors that have arrived
+-- have ids that are taken, that no living actor has, and no two of which are the same.
 pub record AreKnown (protocol : ℕ) (ids : Ids) : Type 0 where
   pub tree : IsTree ids.actors
   pub top : AllByRecursion (IsTopOf protocol) ids.actors
@@ -70,7 +71,7 @@ pub record AreKnown (protocol : ℕ) (ids : Ids) : Type 0 where
   pub waiting : AllByRecursion (IsNew ids) ids.waiting
   pub distinct : AreDistinct ids.waiting
 
--- what is delivered is not refused
+-- the packet that is delivered, if any, is not refused
 abbrev pub IsAccepted : Schema → End → List Packet → Event → Type 0
 IsAccepted schema e [] event = Unit {0}
 IsAccepted schema e (packet ∷ rest) event.deliver = packet_refusal schema e packet ≡ None

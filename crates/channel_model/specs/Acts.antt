@@ -1,4 +1,4 @@
--- A name for an actor, a close and a death.
+-- What an end does when it names an actor, closes or dies.
 use Rattle.std.specs.Prelude.{ℕ, ℤ, pos, int_lt, Bool, not, if◌then◌else◌, List, [], Option, Some, None}
 use Rattle.ipdl_base.specs.declared.line.What.TheVariants as what
 use Rattle.ipdl_base.specs.declared.kinds.Destroy.TheVariants.{NormalShutdown}
@@ -8,6 +8,7 @@ use Rattle.ipdl_base.specs.declared.message.Body.TheVariants.{Goodbye}
 use Rattle.ipdl_base.specs.declared.message.Message.{Message}
 use Rattle.nesting_core.specs.Frames.{has_wait}
 use Rattle.ipdl_base.specs.declared.kinds.EndState.TheVariants.{Dead}
+use Rattle.ipdl_base.specs.Sides.{goodbye_number}
 use Rattle.channel_model.specs.Ends.{End, actor, message, mark}
 use Rattle.channel_model.specs.Falls.{closed}
 use Rattle.channel_model.specs.Names.{renamed}
@@ -17,12 +18,12 @@ use Rattle.channel_model.specs.Sends.{frames_of}
 abbrev pub is_positive : ℤ → Bool
 is_positive id = int_lt (pos 0) id
 
--- an actor gets a name; an id that is not positive stands for none
+-- an actor gets a name; an id that is not positive is no actor
 abbrev pub name_actor : List ℕ → ℤ → Change
 name_actor name id = line (what.Let name (if is_positive id then id else pos 0)) ▷ renamed name (if is_positive id then Some (actor id) else None)
 
 abbrev pub goodbye : Message
-goodbye = record { route = pos 0; number = 4294901760; seq = pos 0; transaction = pos 0; made = pos 0; body = Goodbye }
+goodbye = record { route = pos 0; number = goodbye_number; seq = pos 0; transaction = pos 0; made = pos 0; body = Goodbye }
 
 -- why a close is refused
 abbrev pub close_refusal : End → Option SendRefusal
@@ -39,6 +40,6 @@ close e = close_unless (close_refusal e)
 abbrev pub may_die : End → Bool
 may_die e = not (is_dead_end e.state)
 
--- a death: what was sent is followed by a mark, and nothing is settled
+-- a death: a mark follows what was sent, and nothing is settled
 abbrev pub die : Change
 die = line what.Die ▷ when_open (put mark) ▷ on_end (λ e. record e { state = Dead; stack = []; arrived = [] })

@@ -1,4 +1,4 @@
--- Answers to async requests, by resolve and reject, and resolvers that are kept.
+-- Answers to async requests, by resolve and reject, and resolvers that are kept under names.
 use Rattle.std.specs.Prelude.{ℕ, ◌==◌, ℤ, Bool, true, false, not, ◌&&◌, if◌then◌else◌, List, map, find, Option, Some, None, is_some, option_map, option_and_then}
 use Rattle.std.specs.Option.{option_map_or}
 use Rattle.std.specs.Ordering.{int_eq}
@@ -30,21 +30,22 @@ has_resolver seq entry = is_dispatch entry.frame && (entry.resolves && int_eq (h
 abbrev pub resolver_in : StackEntry → Resolver
 resolver_in entry = record { seq = (head_of entry.frame).seq; route = entry.route; number = entry.number }
 
--- the resolver of the request of this number, whose handler runs
+-- the resolver of the request of this number, if its handler runs and it has one
 abbrev pub handled_resolver : End → ℤ → Option Resolver
 handled_resolver e seq = option_map resolver_in (find (has_resolver seq) e.stack)
 
--- the resolver of a request of this message, in what a name holds
+-- the resolver in the content of a name, if it is of a request of this message
 abbrev pub resolver_of : ℕ → NameContent → Option Resolver
 resolver_of number (actor id) = None
 resolver_of number (resolver r) = if r.number == number then Some r else None
 
--- the resolver that is used
+-- the resolver that an answer uses
 abbrev pub resolver_used : End → Answering → Option Resolver
 resolver_used e (handled seq) = handled_resolver e seq
 resolver_used e (kept name number) = option_and_then (resolver_of number) (held_by_name name e.names)
 
--- the message whose request is answered: a running handler has its resolver, and a message with a name has promises
+-- the message whose request is answered: for a handler, the message of its resolver; for a name, a message that makes
+-- promises
 abbrev pub answered_row : Schema → End → Answering → Option MessageRow
 answered_row schema e (handled seq) = option_and_then (λ r. request_row schema r.number) (handled_resolver e seq)
 answered_row schema e (kept name number) = option_and_then (λ row. if makes_promise row then Some row else None) (request_row schema number)
@@ -52,7 +53,7 @@ answered_row schema e (kept name number) = option_and_then (λ row. if makes_pro
 abbrev pub have_return_types : Schema → MessageRow → Option Values → Bool
 have_return_types schema row vs = option_map_or (λ vs. have_types schema (returns_of_row row) vs) vs true
 
--- whether an end may try to answer by these values, or by none
+-- whether an end may try to answer with these values, or with a rejection
 abbrev pub may_answer : Schema → End → MessageRow → Option Values → Bool
 may_answer schema e row vs = may_act e && have_return_types schema row vs
 
@@ -63,13 +64,13 @@ answer_body (Some vs) = Reply vs
 abbrev pub is_reply_too_large : Schema → Resolver → Values → Bool
 is_reply_too_large schema r vs = is_too_large schema (reply_to (resolver_answered r) (Reply vs))
 
--- why values are not sent by a resolver, or no resolver is there
+-- why values are not sent by a resolver, or that there is no resolver
 abbrev pub resolver_refusal : Schema → End → MessageRow → Option Values → Option Resolver → Option SendRefusal
 resolver_refusal schema e row vs None = Some refusal.DeadActor
 resolver_refusal schema e row None (Some r) = None
 resolver_refusal schema e row (Some vs) (Some r) = value_refusal (is_reply_too_large schema r vs) (has_dead schema e.actors (returns_of_row row) vs)
 
--- why an answer is refused: the first cause that holds
+-- why an answer is refused: the first cause that applies
 abbrev pub answer_refusal : Schema → End → MessageRow → Answering → Option Values → Option SendRefusal
 answer_refusal schema e row by vs = if not (is_open e.state) then Some refusal.Closed else resolver_refusal schema e row vs (resolver_used e by)
 
@@ -81,7 +82,7 @@ abbrev pub answering_line : ℤ → Option Values → What
 answering_line seq None = what.Reject seq
 answering_line seq (Some vs) = what.Resolve seq vs
 
--- the stack when the resolver of the request of this number is used or kept
+-- the stack after the resolver of the request of this number is used or kept
 abbrev pub released : ℤ → List StackEntry → List StackEntry
 released seq stack = map (λ (entry : StackEntry). if has_resolver seq entry then record entry { resolves = false } else entry) stack
 
@@ -93,7 +94,7 @@ without_resolver (kept name number) e = record e { names = without_name name e.n
 abbrev pub resolved : Answering → Option Values → Resolver → Change
 resolved by vs r = line (answering_line r.seq vs) ▷ on_end (without_resolver by) ▷ put (message (reply_to (resolver_answered r) (answer_body vs)))
 
--- an answer that has its resolver and is not refused
+-- an answer, unless it is refused or has no resolver
 abbrev pub answered_unless : Option SendRefusal → Answering → Option Values → Option Resolver → Change
 answered_unless (Some cause) by vs r = line (refused_line cause vs)
 answered_unless None by vs None = line (refused_line refusal.DeadActor vs)
@@ -107,7 +108,7 @@ answer schema e row by vs = answered_unless (answer_refusal schema e row by vs) 
 abbrev pub may_keep : End → ℤ → Bool
 may_keep e seq = may_act e && is_some (handled_resolver e seq)
 
--- what an end keeps of a resolver: a closed one keeps nothing
+-- what a name keeps of a resolver: at a closed end, nothing
 abbrev pub kept_by : End → Resolver → Option NameContent
 kept_by e r = if is_closed e.state then None else Some (resolver r)
 

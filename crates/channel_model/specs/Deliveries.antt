@@ -25,7 +25,7 @@ use Rattle.channel_model.specs.Numbers.{is_sync_row, makes_promise, counting}
 use Rattle.channel_model.specs.Outputs.{Change, ◌▷◌, unchanged, when, on_end, line, lines, answered, request_answered}
 use Rattle.channel_model.specs.Sends.{frames_of}
 
--- the stack with other frames
+-- the stack with its frames replaced by these
 abbrev pub with_frames : List StackFrame → List StackEntry → List StackEntry
 with_frames [] stack = []
 with_frames (frame ∷ frames) [] = []
@@ -48,13 +48,13 @@ failed (Wait head (Some a)) = Wait head (Some a)
 abbrev pub with_failed_wait : StackEntry → StackEntry
 with_failed_wait entry = record entry { frame = failed entry.frame }
 
--- the other end has closed or died: all waits fail, the outbox is dropped, and the end takes what has arrived
+-- the other end has closed or died: all waits fail, the outbox is dropped, and the farewell arrives
 abbrev pub ended : Item → Change
 ended last output =
     (lines (map what.Fails (unanswered output.end))
     ▷ on_end (λ e. record (arrives last e) { state = Draining; outbox = []; stack = map with_failed_wait e.stack })) output
 
--- a request that makes way for a later one
+-- a request that a later one replaces
 abbrev pub replacing : MessageRow → Option Item → Change
 replacing row None = unchanged
 replacing row (Some item.Broken) = unchanged
@@ -63,7 +63,7 @@ replacing row (Some (item.Message old sync level)) = line (what.Replaced old.seq
 abbrev pub item_of : MessageRow → Message → Item
 item_of row m = item.Message m (is_sync_row row) row.level
 
--- a request, counted, and put behind those that stay
+-- a request that arrives: it is counted, and put after those that stay
 abbrev pub counted : MessageRow → Item → End → End
 counted row new e = record e {
   arrived = staying row.compress new e.arrived ++ new ∷ [];
@@ -80,11 +80,11 @@ request_arrives m row output =
 abbrev pub answers_wait : Answer → End → End
 answers_wait a e = record e { stack = with_frames (with_answer a (frames_of e)) e.stack }
 
--- the reply to a sync request goes to the innermost wait, another one arrives
+-- the reply to a sync request goes to the innermost wait; any other reply arrives
 abbrev pub reply_arrives : Message → Answer → MessageRow → Change
 reply_arrives m a row = on_end (λ e. if is_sync_row row then answers_wait a e else arrives (item_of row m) e)
 
--- what is done with a message by its row, and else
+-- what is done with a message by its row, or otherwise if it has no row
 abbrev pub by_row : Schema → Message → (MessageRow → Change) → Change → Change
 by_row schema m change otherwise = option_map_or change (message_of schema m.number) otherwise
 

@@ -1,4 +1,4 @@
--- The two ends of a channel, each with all that it keeps, and the links between them.
+-- The two ends of a channel with all that each keeps, and the links between them.
 use Rattle.std.specs.Prelude.{ℕ, ℤ, Bool, List, [], ◌∷◌}
 use Rattle.actor_tree.specs.declared.actor.Actor.{Actor}
 use Rattle.actor_tree.specs.Tree.{top}
@@ -22,7 +22,7 @@ pub record Resolver : Type 0 where
   pub route : ℤ
   pub number : ℕ
 
--- What a name holds: an actor by its id, or a resolver.
+-- The content of a name: an actor by its id, or a resolver.
 pub data NameContent : Type 0 where
   actor : ℤ → NameContent
   resolver : Resolver → NameContent
@@ -31,7 +31,7 @@ pub record Naming : Type 0 where
   pub name : List ℕ
   pub holds : NameContent
 
--- A frame with what the frame does not keep: the actor that its request went to, the number of the request's
+-- A frame with what the frame itself does not keep: the actor that its request went to, the number of the request's
 -- message, and whether it is a dispatch whose resolver is neither used nor kept.
 pub record StackEntry : Type 0 where
   pub frame : StackFrame
@@ -44,8 +44,8 @@ pub record PromiseEntry : Type 0 where
   pub promise : Promise
   pub number : ℕ
 
--- All that an end keeps. The stack has its innermost frame first, all other lists have the oldest first. The last
--- four fields count the requests that the end has sent, the constructors among them, the requests that were
+-- All that an end keeps. The stack has its innermost frame first; all other lists have the oldest element first. The
+-- last four fields count the requests that the end has sent, the constructors among them, the requests that were
 -- delivered to it, and the constructors among those.
 pub record End : Type 0 where
   pub side : Side
@@ -61,7 +61,7 @@ pub record End : Type 0 where
   pub delivered : ℕ
   pub constructors_delivered : ℕ
 
--- Both ends, and what is on the link toward each.
+-- Both ends, and the packets on the link toward each.
 pub record World : Type 0 where
   pub parent : End
   pub child : End

@@ -19,8 +19,8 @@ abbrev pub IsEventWithEffects : Side → List Line → Type 0
 IsEventWithEffects side [] = ⊥
 IsEventWithEffects side (first ∷ rest) = IsEventOf side first × AllByRecursion (IsEffectOf side) rest
 
--- Lines behind one whose event is of this side, if there is one: an effect stands on the side of the nearest event
--- above it, and there is one above it.
+-- Lines that follow a line whose event is on this side, if there is one. Each effect is on the side of the nearest
+-- event above it, and there is such an event.
 abbrev pub EffectsFollow : Option Side → List Line → Type 0
 EffectsFollow before [] = Unit {0}
 EffectsFollow before (line ∷ rest) = MatchBool (is_effect line.what) (before ≡ Some line.side) (Unit {0}) × EffectsFollow (Some line.side) rest

@@ -19,21 +19,21 @@ use Rattle.promise_table.specs.Promises.{is_pending, is_pending_of}
 use Rattle.ipdl_base.specs.declared.kinds.EndState.TheVariants.{Closed}
 use Rattle.channel_model.specs.Ends.{PromiseEntry}
 use Rattle.channel_model.specs.Names.{without_resolvers}
-use Rattle.channel_model.specs.Numbers.{top_id}
+use Rattle.ipdl_base.specs.Sides.{top_id}
 use Rattle.channel_model.specs.Outputs.{Change, ◌▷◌, unchanged, on_end, lines}
 
--- whether a promise is pending and passes
+-- whether a promise is pending and passes the test
 abbrev pub passes : (Promise → Bool) → PromiseEntry → Bool
 passes test entry = is_pending entry.promise && test entry.promise
 
--- the lines by which the pending promises that pass are rejected, oldest first
+-- the lines that reject the pending promises that pass, oldest first
 abbrev pub rejections : (Promise → Bool) → Reason → List PromiseEntry → List What
 rejections test reason promises = map (λ entry. what.Rejected entry.promise.seq reason) (filter (passes test) promises)
 
 abbrev pub rejected_entry : Reason → PromiseEntry → PromiseEntry
 rejected_entry reason entry = record entry { promise = record entry.promise { outcome = Some (Rejected reason) } }
 
--- the promises when those are rejected
+-- the promises after those that pass are rejected
 abbrev pub rejected : (Promise → Bool) → Reason → List PromiseEntry → List PromiseEntry
 rejected test reason promises = map (λ (entry : PromiseEntry). if passes test entry then rejected_entry reason entry else entry) promises
 
@@ -41,7 +41,7 @@ rejected test reason promises = map (λ (entry : PromiseEntry). if passes test e
 abbrev pub fall_lines : (ℤ → Destroy) → List PromiseEntry → Actor → List What
 fall_lines why promises a = rejections (is_pending_of a.id) ActorDestroyed promises ++ what.Fall a.id (why a.id) ∷ []
 
--- the subtree of an id falls, each for its reason
+-- the actors of the subtree of an id fall, each for its reason
 abbrev pub fallen : ℤ → (ℤ → Destroy) → Change
 fallen id why output =
     let falling : List Actor = post_order id output.end.actors in
@@ -51,7 +51,7 @@ fallen id why output =
 abbrev pub why_deleted : ℤ → ℤ → Destroy
 why_deleted deleted id = if int_eq id deleted then Deletion else AncestorDeletion
 
--- an actor is deleted, with all below it
+-- an actor is deleted, with all actors below it
 abbrev pub deleted : ℤ → Change
 deleted id = fallen id (why_deleted id)
 

@@ -25,7 +25,7 @@ use Rattle.channel_model.specs.Refusals.{packet_refusal}
 use Rattle.channel_model.specs.Returns.{dispatch_answered}
 use Rattle.channel_model.specs.States.{is_goodbye}
 
--- A request of the row is kept: whatever answers it has the fields of a message of the row.
+-- A request of the row is kept: every answer to it has the fields of a message of the row.
 pub record IsRequestKept (schema : Schema) (row : MessageRow) (q : AnsweredRequest) : Type 0 where
   pub found : request_row schema q.number ≡ Some row
   pub fields : (body : Body) → HasFields row (reply_to q body)
@@ -34,23 +34,24 @@ pub record IsRequestKept (schema : Schema) (row : MessageRow) (q : AnsweredReque
 abbrev pub HasRowOf : Schema → Message → Bool → Level → Type 0
 HasRowOf schema m sync level = (row : MessageRow) × (message_of schema m.number ≡ Some row) × (sync ≡ is_sync_row row) × (level ≡ row.level)
 
--- what has arrived is a message that fits, with what its row says, or a mark
+-- what has arrived is a message that fits and has what its row requires, or a mark
 abbrev pub FitsItem : Schema → Item → Type 0
 FitsItem schema (item.Message m sync level) = Fits schema m × (is_goodbye m.body ≡ false → HasRowOf schema m sync level)
 FitsItem schema item.Broken = Unit {0}
 
--- an answer with values gives those of the returns
+-- an answer with values has values of the row's returns
 abbrev pub FitsAnswer : Schema → MessageRow → Answer → Type 0
 FitsAnswer schema row (answer.Ok vs) = GivesReturns schema row vs
 FitsAnswer schema row (answer.Fault reason) = Unit {0}
 
--- a wait is for the reply of a sync message, and its answer is one to that
+-- a wait is for the reply to a sync message, and its answer fits that message
 abbrev pub FitsFrame : Schema → MessageRow → StackFrame → Type 0
 FitsFrame schema row (Dispatch head) = Unit {0}
 FitsFrame schema row (Wait head None) = is_sync_row row ≡ true
 FitsFrame schema row (Wait head (Some a)) = (is_sync_row row ≡ true) × FitsAnswer schema row a
 
--- An entry of a stack has the request of a row, with what the row says, and a resolver only where a promise waits.
+-- The request of a stack entry has a row, with the sync and level of the row, and a resolver only where it makes a
+-- promise.
 pub record FitsEntry (schema : Schema) (entry : StackEntry) : Type 0 where
   pub row : MessageRow
   pub request : IsRequestKept schema row (dispatch_answered entry)
@@ -67,24 +68,24 @@ promise_answered entry = record { seq = entry.promise.seq; route = entry.promise
 abbrev pub FitsPromised : Schema → AnsweredRequest → Type 0
 FitsPromised schema q = (row : MessageRow) × IsRequestKept schema row q × (makes_promise row ≡ true)
 
--- a promise is of such a request
+-- a promise is for a request that makes one
 abbrev pub FitsPromise : Schema → PromiseEntry → Type 0
 FitsPromise schema entry = FitsPromised schema (promise_answered entry)
 
--- a resolver is of such a request
+-- a resolver is for a request that makes a promise
 abbrev pub FitsResolver : Schema → Resolver → Type 0
 FitsResolver schema r = FitsPromised schema (resolver_answered r)
 
--- what a name holds is an actor, or a resolver that fits
+-- the content of a name is an actor, or a resolver that fits
 abbrev pub FitsContent : Schema → NameContent → Type 0
 FitsContent schema (actor id) = Unit {0}
 FitsContent schema (resolver r) = FitsResolver schema r
 
--- a name holds what fits
+-- the content of a naming fits
 abbrev pub FitsNaming : Schema → Naming → Type 0
 FitsNaming schema naming = FitsContent schema naming.holds
 
--- an actor has an id that one who lives may have
+-- the id of an actor is one that a living actor may have
 abbrev pub HasLivingId : Actor → Type 0
 HasLivingId a = IsLivingId a.id
 
@@ -102,7 +103,7 @@ abbrev pub FitsPacket : Schema → Packet → Type 0
 FitsPacket schema (message m) = Fits schema m
 FitsPacket schema mark = Unit {0}
 
--- what is delivered fits and is not refused
+-- what is delivered, if anything, fits and is not refused
 abbrev pub IsFittingDelivery : Schema → End → List Packet → Event → Type 0
 IsFittingDelivery schema e [] event = Unit {0}
 IsFittingDelivery schema e (packet ∷ rest) event.deliver = FitsPacket schema packet × (packet_refusal schema e packet ≡ None)

@@ -31,8 +31,8 @@ ImpossibleMovesChangeNothing =
     (schema : Schema) (world : World) (move : Move) → IsNone (output_of schema world move)
     → (happens schema world move ≡ (record { world = world; lines = [] }))
 
--- Moves go one after another: what some moves and then others make is what the others make behind the first, with the
--- lines of both.
+-- Moves follow one another: running some moves and then others gives the world that the others make after the first,
+-- and the lines of both.
 pub record MovesFollow (schema : Schema) (front back : List Move) (from : World) : Type 0 where
   pub world : (run schema (front ++ back) from).world ≡ (run schema back (run schema front from).world).world
   pub lines : (run schema (front ++ back) from).lines ≡ (run schema front from).lines ++ (run schema back (run schema front from).world).lines
@@ -40,12 +40,12 @@ pub record MovesFollow (schema : Schema) (front back : List Move) (from : World)
 abbrev pub MovesGoOneAfterAnother : Type 0
 MovesGoOneAfterAnother = (schema : Schema) (front back : List Move) (world : World) → MovesFollow schema front back world
 
--- Histories grow: that of a front of the moves is a front of that of all.
+-- The history of a prefix of the moves is a prefix of the history of all of them.
 abbrev pub HistoriesGrow : Type 0
 HistoriesGrow = (schema : Schema) (top : ℕ) (front back : List Move) → (rest : List Line) × (history_of schema top (front ++ back) ≡ history_of schema top front ++ rest)
 
--- What values say of types and actors does not hang on where their boxes lie: each of these gives the same on the plain
--- values, or the plain form of what it gives.
+-- The types and actors of values do not depend on where their boxes are: each of these functions gives the same on
+-- the plain values, or the plain form of its result.
 pub record PlainFormsCommute : Type 0 where
   pub has_type : (schema : Schema) (shape : Shape) (v : Value) → typed.has_type schema shape (plain v) ≡ typed.has_type schema shape v
   pub have_types : (schema : Schema) (fields : List ParamRow) (vs : Values) → typed.have_types schema fields (plain_values vs) ≡ typed.have_types schema fields vs
@@ -57,8 +57,8 @@ pub record PlainFormsCommute : Type 0 where
   pub nulled : (schema : Schema) (living : List Actor) (fields : List ParamRow) (vs : Values) → actors.nulled schema living fields (plain_values vs) ≡ plain_values (actors.nulled schema living fields vs)
   pub received : (schema : Schema) (living : List Actor) (row : MessageRow) (a : Answer) → actors.received schema living row (plain_answer a) ≡ plain_answer (actors.received schema living row a)
 
--- Values that are taken, and those of an answer that is received, have their types where they had them before null took
--- the place of actors.
+-- Values that are taken, and those of an answer that is received, have their types exactly where they had them before
+-- null took the place of actors.
 pub record NullsKeepTypes : Type 0 where
   pub taken : (schema : Schema) (living : List Actor) (fields : List ParamRow) (vs : Values) → typed.have_types schema fields (actors.nulled schema living fields vs) ≡ typed.have_types schema fields vs
   pub received : (schema : Schema) (living : List Actor) (row : MessageRow) (vs ws : Values) → actors.received schema living row (answer.Ok vs) ≡ answer.Ok ws

@@ -1,7 +1,5 @@
--- Numbers of requests and actors, and what a message's row says of its steps.
+-- Numbers of requests and actors, and what the row of a message determines about its steps.
 use Rattle.std.specs.Prelude.{ℕ, ◌+◌, ◌*◌, ◌/◌, ◌==◌, ℤ, pos, neg_ℤ, Bool, true, false, not, ◌&&◌, Option, Some, None, is_some, if◌then◌else◌, option_and_then}
-use Rattle.ipdl_base.specs.declared.kinds.Direction.{Direction}
-use Rattle.ipdl_base.specs.declared.kinds.Direction.TheVariants as direction
 use Rattle.ipdl_base.specs.declared.kinds.Side.{Side}
 use Rattle.ipdl_base.specs.declared.kinds.Side.TheVariants.{Parent, Child}
 use Rattle.ipdl_base.specs.declared.schema.Kind.{Kind}
@@ -9,10 +7,6 @@ use Rattle.ipdl_base.specs.declared.schema.Kind.TheVariants.{Normal, Constructor
 use Rattle.ipdl_base.specs.declared.schema.MessageRow.{MessageRow}
 use Rattle.ipdl_base.specs.declared.schema.Schema.{Schema}
 use Rattle.ipdl_base.specs.Sound.{is_sync, message_of}
-
-abbrev pub other : Side → Side
-other Parent = Child
-other Child = Parent
 
 -- the number of a side's k-th request
 abbrev pub seq_of : Side → ℕ → ℤ
@@ -24,10 +18,6 @@ abbrev pub id_of : Side → ℕ → ℤ
 id_of Parent k = pos (4 * k + 2)
 id_of Child k = pos (4 * k)
 
--- the id of the top actor
-abbrev pub top_id : ℤ
-top_id = pos 2147483647
-
 -- the protocol of a message, by the number of its request or reply
 abbrev pub protocol_of : ℕ → ℕ
 protocol_of number = number / 65536
@@ -36,18 +26,10 @@ protocol_of number = number / 65536
 abbrev pub request_row : Schema → ℕ → Option MessageRow
 request_row schema number = option_and_then (λ row. if row.number == number then Some row else None) (message_of schema number)
 
--- whether a side sends what has this direction
-abbrev pub sends : Side → Direction → Bool
-sends side direction.Both = true
-sends Parent direction.Child = true
-sends Child direction.Parent = true
-sends Parent direction.Parent = false
-sends Child direction.Child = false
-
 abbrev pub is_sync_row : MessageRow → Bool
 is_sync_row row = is_sync row.semantics
 
--- whether a request of the message leaves a promise behind, and gives its handler a resolver
+-- whether a request of the message makes a promise, and gives its handler a resolver
 abbrev pub makes_promise : MessageRow → Bool
 makes_promise row = not (is_sync_row row) && is_some row.returns
 
@@ -56,6 +38,6 @@ is_constructor Normal = false
 is_constructor (Constructor protocol) = true
 is_constructor Delete = false
 
--- a counter of constructors behind a request of this kind
+-- a counter of constructors after a request of this kind
 abbrev pub counting : Kind → ℕ → ℕ
 counting kind n = if is_constructor kind then n + 1 else n

@@ -1,4 +1,4 @@
--- What a step makes: the new end, its lines and its packets; and the parts that steps are made of.
+-- What a step makes: the new end, its lines and its packets. Also the changes from which steps are built.
 use Rattle.std.specs.Prelude.{ℕ, ◌+◌, ℤ, pos, Bool, true, false, List, [], ◌∷◌, ◌++◌, map}
 use Rattle.ipdl_base.specs.declared.line.Line.{Line}
 use Rattle.ipdl_base.specs.declared.line.What.{What}
@@ -20,7 +20,7 @@ pub record Output : Type 0 where
   pub lines : List Line
   pub packets : List Packet
 
--- before any part of a step
+-- the output before any change of a step
 abbrev pub beginning : End → Output
 beginning e = record { end = e; lines = []; packets = [] }
 
@@ -31,31 +31,31 @@ abbrev pub unchanged : Change
 unchanged output = output
 
 infixr 4 ◌▷◌
--- one part, and then another
+-- one change, and then another
 abbrev pub ◌▷◌ : Change → Change → Change
 (first ▷ second) output = second (first output)
 
--- a part under a condition
+-- a change under a condition
 abbrev pub when : Bool → Change → Change
 when true change output = change output
 when false change output = output
 
--- a part that changes the end alone
+-- a change of the end alone
 abbrev pub on_end : (End → End) → Change
 on_end change output = record output { end = change output.end }
 
 abbrev pub line_at : Side → What → Line
 line_at side what = record { side = side; what = what }
 
--- a line
+-- prints a line
 abbrev pub line : What → Change
 line what output = record output { lines = output.lines ++ line_at output.end.side what ∷ [] }
 
--- lines, one after another
+-- prints lines, one after another
 abbrev pub lines : List What → Change
 lines whats output = record output { lines = output.lines ++ map (line_at output.end.side) whats }
 
--- a packet, behind all that waits in the outbox
+-- sends a packet, after all that waits in the outbox
 abbrev pub put : Packet → Change
 put packet output = record output {
   end = record output.end { outbox = [] };
@@ -80,11 +80,11 @@ is_dead_end Draining = false
 is_dead_end Closed = false
 is_dead_end Dead = true
 
--- a part that only an open end has
+-- a change that only an open end makes
 abbrev pub when_open : Change → Change
 when_open change output = when (is_open output.end.state) change output
 
--- What the answer to a request repeats of it.
+-- What the answer to a request repeats from it.
 pub record AnsweredRequest : Type 0 where
   pub seq : ℤ
   pub route : ℤ
@@ -97,7 +97,7 @@ request_answered m = record { seq = m.seq; route = m.route; number = m.number; t
 abbrev pub resolver_answered : Resolver → AnsweredRequest
 resolver_answered r = record { seq = r.seq; route = r.route; number = r.number; transaction = pos 0 }
 
--- the reply to a request, which has the next number
+-- the reply to a request, with the number after that of the request
 abbrev pub reply_to : AnsweredRequest → Body → Message
 reply_to q body = record { route = q.route; number = q.number + 1; seq = q.seq; transaction = q.transaction; made = pos 0; body = body }
 
@@ -113,6 +113,6 @@ answer_line seq (answer.Fault reason) = what.AnswerFault seq reason
 abbrev pub answered : AnsweredRequest → Answer → Change
 answered q a = when_open (line (answer_line q.seq a) ▷ put (message (reply_to q (body_of a))))
 
--- a resolver that is let go
+-- a resolver is destroyed
 abbrev pub destroyed : Resolver → Change
 destroyed r = answered (resolver_answered r) (answer.Fault ResolverDestroyed)

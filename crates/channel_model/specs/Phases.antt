@@ -1,4 +1,4 @@
--- What an event has come to: what its later parts hang on.
+-- How far an event has come: what its later parts depend on.
 use Rattle.std.specs.Prelude.{◌≡◌, ℤ, pos, Bool, true, false, if◌then◌else◌, List, [], ◌∷◌}
 use Rattle.ipdl_base.specs.declared.kinds.Destroy.{Destroy}
 use Rattle.ipdl_base.specs.declared.message.Message.{Message}
@@ -7,8 +7,8 @@ use Rattle.ipdl_base.specs.declared.schema.Kind.TheVariants.{Normal, Constructor
 use Rattle.ipdl_base.specs.declared.schema.MessageRow.{MessageRow}
 use Rattle.channel_model.specs.Numbers.{is_constructor}
 
--- How an event began: a request of a number is sent to an actor, or handled at one; the other end has ended; this end
--- closes; or in another way.
+-- How an event began: a request of a number is sent to an actor, or is handled at one; the other end has ended; this
+-- end closes; or in another way.
 pub data EventStart : Type 0 where
   sends : ℤ → ℤ → EventStart
   takes : ℤ → ℤ → EventStart
@@ -16,14 +16,14 @@ pub data EventStart : Type 0 where
   closes : EventStart
   other : EventStart
 
--- Why actors fall in an event: none does, that of a destructor does with all below it, or all do.
+-- Why actors fall in an event: no actor falls, the actor of a destructor falls with all below it, or all actors fall.
 pub data FallCause : Type 0 where
   nobody : FallCause
   deletion : ℤ → FallCause
   closing : Destroy → FallCause
 
--- How far an event has come: how it began, with a request of which kind, why actors fall in it, the ids that are still to
--- be built, the falls that are still due, and whether a name may still lose what it holds.
+-- How far an event has come: how it began, the kind of its request, why actors fall in it, the ids of actors that are
+-- still to be built, the falls that are still due, and whether a name may still lose its content.
 pub record Phase : Type 0 where
   pub start : EventStart
   pub kind : Kind
@@ -40,11 +40,11 @@ manager_of ends = pos 0
 manager_of closes = pos 0
 manager_of other = pos 0
 
--- nothing is to follow
+-- nothing more will follow
 abbrev pub quiet : Phase
 quiet = record { start = other; kind = Normal; cause = nobody; fresh = []; due = nobody; renames = false }
 
--- a name is to hold something else
+-- a name gets a new content
 abbrev pub renaming : Phase
 renaming = record { start = other; kind = Normal; cause = nobody; fresh = []; due = nobody; renames = true }
 
@@ -56,13 +56,13 @@ ending = record { start = ends; kind = Normal; cause = nobody; fresh = []; due =
 abbrev pub shutting : Destroy → Phase
 shutting why = record { start = closes; kind = Normal; cause = closing why; fresh = []; due = closing why; renames = false }
 
--- why actors fall behind a request of a kind that went to this actor
+-- why actors fall after a request of a kind that went to this actor
 abbrev pub kind_cause : Kind → ℤ → FallCause
 kind_cause Normal route = nobody
 kind_cause (Constructor protocol) route = nobody
 kind_cause Delete route = deletion route
 
--- the id that a request makes, if it is one of a constructor
+-- the id of the actor that a request makes, if the request is a constructor
 abbrev pub fresh_of : MessageRow → Message → List ℤ
 fresh_of row m = if is_constructor row.kind then m.made ∷ [] else []
 
@@ -78,6 +78,6 @@ taking row m = record { start = takes m.seq m.route; kind = row.kind; cause = no
 abbrev pub returning : MessageRow → ℤ → Phase
 returning row route = record { start = other; kind = Normal; cause = kind_cause row.kind route; fresh = []; due = kind_cause row.kind route; renames = false }
 
--- all that is to be built is built, and no fall is due
+-- all actors that were due are built, and no fall is due
 abbrev pub IsOver : Phase → Type 0
 IsOver p = (p.fresh ≡ []) × (p.due ≡ nobody)

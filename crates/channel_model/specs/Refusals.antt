@@ -1,4 +1,4 @@
--- Why an end refuses to have a message delivered that another end, whatever it is, has sent.
+-- Why an end refuses the delivery of a message, whatever end has sent it.
 use Rattle.std.specs.Prelude.{ℕ, ◌+◌, ◌==◌, ℤ, Bool, false, not, ◌&&◌, if◌then◌else◌, List, [], ◌∷◌, find, Option, Some, None, option_map}
 use Rattle.std.specs.List.{list_any}
 use Rattle.std.specs.Option.{option_map_or}
@@ -14,11 +14,13 @@ use Rattle.ipdl_base.specs.declared.schema.Schema.{Schema}
 use Rattle.ipdl_base.specs.Sound.{message_of}
 use Rattle.nesting_core.specs.Frames.{head_of, is_unanswered}
 use Rattle.channel_model.specs.Ends.{End, Packet, message, mark}
-use Rattle.channel_model.specs.Numbers.{other, seq_of, id_of, protocol_of, sends, is_sync_row, is_constructor}
+use Rattle.ipdl_base.specs.Sides.{other, sends}
+use Rattle.channel_model.specs.Numbers.{seq_of, id_of, protocol_of, is_sync_row, is_constructor}
 use Rattle.channel_model.specs.ValueActors.{ActorValue, actors_in_parts}
 
--- A request that the other side does not send; one whose number, or whose constructor's new id, is not the next; a
--- reply to nothing that waits for it; an actor that lives with another protocol, by its id and the message's number.
+-- A request that the other side does not send; a request whose number, or a constructor whose new id, is not the
+-- next; a reply that nothing waits for; an actor that lives with another protocol, by its id and the message's
+-- number.
 pub data DeliveryRefusal : Type 0 where
   wrong_direction : DeliveryRefusal
   wrong_number : DeliveryRefusal
@@ -33,7 +35,7 @@ expected_seq e = seq_of (other e.side) (e.delivered + 1)
 abbrev pub expected_id : End → ℤ
 expected_id e = id_of (other e.side) (e.constructors_delivered + 1)
 
--- whether a request, by what it answers to, is that of the reply: its number, its message and its actor
+-- whether a request is the one that the reply answers, by its number, its message and its actor
 abbrev pub is_replied_to : Message → ℤ → ℕ → ℤ → Bool
 is_replied_to m seq number route = int_eq m.seq seq && ((m.number == number + 1) && int_eq m.route route)
 
@@ -49,14 +51,14 @@ is_promised e m = list_any (λ entry. is_replied_to m entry.promise.seq entry.nu
 abbrev pub lives_otherwise : List Actor → ℕ → ℤ → Bool
 lives_otherwise actors protocol id = option_map_or (λ a. not (a.protocol == protocol)) (actor_of id actors) false
 
--- the actors that a message speaks of: the one that it goes to, and those of its values
+-- the actors that a message refers to: the one that it goes to, and those of its values
 abbrev pub actors_of : Schema → MessageRow → Message → Body → List ActorValue
 actors_of schema row m (Request vs) = record { id = m.route; protocol = protocol_of m.number; nullable = false } ∷ actors_in_parts schema row.params vs
 actors_of schema row m (Reply vs) = record { id = m.route; protocol = protocol_of m.number; nullable = false } ∷ actors_in_parts schema (returns_of_row row) vs
 actors_of schema row m (Fault reason) = record { id = m.route; protocol = protocol_of m.number; nullable = false } ∷ []
 actors_of schema row m Goodbye = []
 
--- the first of them that lives with another protocol
+-- the first actor of the message that lives with another protocol
 abbrev pub actor_refusal : Schema → End → MessageRow → Message → Option DeliveryRefusal
 actor_refusal schema e row m =
     option_map (λ a. wrong_actor a.id m.number) (find (λ a. lives_otherwise e.actors a.protocol a.id) (actors_of schema row m m.body))
@@ -80,7 +82,7 @@ body_refusal schema e m (Reply vs) row = reply_refusal schema e m row
 body_refusal schema e m (Fault reason) row = reply_refusal schema e m row
 body_refusal schema e m Goodbye row = None
 
--- why a message that fits the schema is refused: the first cause that holds
+-- why a message that fits the schema is refused: the first cause that applies
 abbrev pub delivery_refusal : Schema → End → Message → Option DeliveryRefusal
 delivery_refusal schema e m = option_map_or (body_refusal schema e m m.body) (message_of schema m.number) None
 

@@ -6,7 +6,8 @@ use Rattle.channel_model.specs.Ends.{End, PromiseEntry}
 use Rattle.channel_model.specs.Numbers.{seq_of}
 use Rattle.channel_model.specs.Actors.{AreDistinct}
 
--- What decides which numbers are taken at an end: how many requests it has sent, and the numbers of its promises.
+-- What decides which numbers are taken at an end: the number of requests that it has sent, and the numbers of its
+-- promises.
 pub record Requests : Type 0 where
   pub side : Side
   pub sent : ℕ
@@ -22,7 +23,7 @@ requests_of e = record { side = e.side; sent = e.sent; promised = map promise_se
 abbrev pub IsSeqOf : Side → ℕ → ℤ → Type 0
 IsSeqOf side n seq = (k : ℕ) × (1 ≤ k) × (k ≤ n) × (seq ≡ seq_of side k)
 
--- Each promise has the number of a request that was sent, and no two promises have one number.
+-- Each promise has the number of a request that was sent, and no two promises have the same number.
 pub record AreNumbered (requests : Requests) : Type 0 where
   pub promised : AllByRecursion (IsSeqOf requests.side requests.sent) requests.promised
   pub distinct : AreDistinct requests.promised

@@ -1,4 +1,4 @@
--- Handlers that return, calls that go on, and the outbox that is flushed.
+-- Handlers that return, calls that continue, and the outbox that is flushed.
 use Rattle.std.specs.Prelude.{ℕ, ℤ, Bool, true, false, not, ◌&&◌, ◌||◌, if◌then◌else◌, List, [], ◌∷◌, ◌++◌, drop, length, map, Option, Some, None, is_none, is_some}
 use Rattle.ipdl_base.specs.declared.line.What.{What}
 use Rattle.ipdl_base.specs.declared.line.What.TheVariants as what
@@ -28,15 +28,15 @@ abbrev pub dispatch_on_top : List StackEntry → Option StackEntry
 dispatch_on_top [] = None
 dispatch_on_top (entry ∷ below) = elim entry.frame [ Dispatch head ↦ Some entry | Wait head a ↦ None ]
 
--- what the answer to a dispatch repeats of its request
+-- what the answer to a dispatch repeats from its request
 abbrev pub dispatch_answered : StackEntry → AnsweredRequest
 dispatch_answered entry = record { seq = (head_of entry.frame).seq; route = entry.route; number = entry.number; transaction = (head_of entry.frame).transaction }
 
--- whether a handler may return these values, or none: only one of a sync message with returns has values
+-- whether a handler may return these values, or no values: only a sync message with returns has values
 abbrev pub may_return : Schema → MessageRow → Option Values → Bool
 may_return schema row vs = is_none vs || (is_sync_row row && (is_some row.returns && have_return_types schema row vs))
 
--- whether values are not sent back: they are too large, or one of their actors is dead
+-- whether values are not sent back: they are too large, or contain a dead actor
 abbrev pub is_bad_return : Schema → End → MessageRow → StackEntry → Values → Bool
 is_bad_return schema e row entry vs = is_too_large schema (reply_to (dispatch_answered entry) (Reply vs)) || has_dead schema e.actors (returns_of_row row) vs
 
@@ -44,11 +44,11 @@ abbrev pub given_answer : Schema → End → MessageRow → StackEntry → Optio
 given_answer schema e row entry None = answer.Fault HandlerRejected
 given_answer schema e row entry (Some vs) = if is_bad_return schema e row entry vs then answer.Fault HandlerRejected else answer.Ok vs
 
--- the answer to a sync request whose handler returns these values, or none
+-- the answer to a sync request whose handler returns with these values, or without values
 abbrev pub return_answer : Schema → End → MessageRow → StackEntry → Option Values → Answer
 return_answer schema e row entry vs = if is_none row.returns then answer.Ok Nothing else given_answer schema e row entry vs
 
--- the frame on top comes off
+-- the frame on top is removed
 abbrev pub popped : Change
 popped = on_end (λ e. record e { stack = drop 1 e.stack })
 
@@ -81,7 +81,7 @@ abbrev pub resume_line : ℤ → Answer → What
 resume_line seq (answer.Ok vs) = what.ResumeOk seq vs
 resume_line seq (answer.Fault reason) = what.ResumeFault seq reason
 
--- a call goes on with its answer
+-- a call continues with its answer
 abbrev pub resume : Schema → End → AnsweredWait → MessageRow → Change
 resume schema e wait row = popped ▷ line (resume_line wait.seq (received schema e.actors row wait.given))
 

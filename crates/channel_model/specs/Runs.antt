@@ -21,19 +21,19 @@ abbrev pub is_delivery : Event → Bool
 is_delivery event.deliver = true
 is_delivery _ = false
 
--- a link toward an end behind an event there: a delivery takes its first packet off
+-- a link toward an end after an event there: a delivery removes its first packet
 abbrev pub after_event : Event → List Packet → List Packet
 after_event event.deliver link = drop 1 link
 after_event _ link = link
 
--- the world behind a step: the end is the new one, and its packets stand last on the link away from it
+-- the world after a step: the end is the new one, and its packets are last on the link away from it
 abbrev pub world_after : Move → Output → World → World
 world_after move output world = elim move.side [
   | sides.Parent ↦ record { parent = output.end; child = world.child; to_parent = after_event move.event world.to_parent; to_child = world.to_child ++ output.packets }
   | sides.Child ↦ record { parent = world.parent; child = output.end; to_parent = world.to_parent ++ output.packets; to_child = after_event move.event world.to_child }
 ]
 
--- what a move makes in a world, or nothing where it is not possible
+-- the output of a move in a world, or `None` where the move is not possible
 abbrev pub output_of : Schema → World → Move → Option Output
 output_of schema world move = step schema (end_of move.side world) (link_to move.side world) move.event
 
@@ -41,11 +41,11 @@ abbrev pub passed_by : Option Output → Move → World → RunState
 passed_by None move world = record { world = world; lines = [] }
 passed_by (Some output) move world = record { world = world_after move output world; lines = output.lines }
 
--- What happens by a move. One that is not possible changes nothing and has no line.
+-- The result of a move. A move that is not possible changes nothing and prints no line.
 abbrev pub happens : Schema → World → Move → RunState
 happens schema world move = passed_by (output_of schema world move) move world
 
--- what moves do, one after another
+-- the result of moves, one after another
 abbrev pub run : Schema → List Move → World → RunState
 run schema [] world = record { world = world; lines = [] }
 run schema (move ∷ moves) world =

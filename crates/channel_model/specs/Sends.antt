@@ -24,7 +24,8 @@ use Rattle.value_types.specs.Sizes.{payload_size}
 use Rattle.channel_model.specs.Ends.{End, StackEntry, message, actor}
 use Rattle.channel_model.specs.Falls.{deletes}
 use Rattle.channel_model.specs.Names.{renamed}
-use Rattle.channel_model.specs.Numbers.{seq_of, id_of, protocol_of, sends, is_sync_row, makes_promise, is_constructor, counting}
+use Rattle.ipdl_base.specs.Sides.{sends}
+use Rattle.channel_model.specs.Numbers.{seq_of, id_of, protocol_of, is_sync_row, makes_promise, is_constructor, counting}
 use Rattle.channel_model.specs.Outputs.{Change, ◌▷◌, unchanged, when, on_end, line, put, is_open, is_dead_end}
 use Rattle.channel_model.specs.Typed.{have_types}
 use Rattle.channel_model.specs.ValueActors.{lives_as, has_dead}
@@ -39,7 +40,7 @@ is_wait_on_top (top.Dispatch head) = false
 is_wait_on_top (top.Unanswered head) = true
 is_wait_on_top (top.Answered head) = true
 
--- whether an end may act: it has not died, and what is on top of its stack, if anything, is a dispatch
+-- whether an end may act: it has not died, and the top of its stack, if any, is a dispatch
 abbrev pub may_act : End → Bool
 may_act e = not (is_dead_end e.state) && not (is_wait_on_top (top_of (frames_of e)))
 
@@ -66,11 +67,11 @@ abbrev pub may_send : Schema → End → MessageRow → Values → Option (List 
 may_send schema e row vs name =
     may_act e && (row.carried && (sends e.side row.direction && (have_types schema row.params vs && (is_none name || is_constructor row.kind))))
 
--- what the stack says against a send
+-- why the stack refuses a send
 abbrev pub stack_refusal : End → MessageRow → Option SendRefusal
 stack_refusal e row = refusal_of (frames_of e) (record { sync = is_sync_row row; level = row.level })
 
--- why values are not sent in a message
+-- why the values of a message are not sent
 abbrev pub value_refusal : Bool → Bool → Option SendRefusal
 value_refusal large dead = if large then Some refusal.TooLarge else (if dead then Some refusal.DeadValue else None)
 
@@ -78,7 +79,7 @@ value_refusal large dead = if large then Some refusal.TooLarge else (if dead the
 abbrev pub send_value_refusal : Schema → End → MessageRow → ℤ → Values → Option SendRefusal
 send_value_refusal schema e row route vs = value_refusal (is_too_large schema (request_of e row route vs)) (has_dead schema e.actors row.params vs)
 
--- why a send is refused: the first cause that holds
+-- why a send is refused: the first cause that applies
 abbrev pub send_refusal : Schema → End → MessageRow → ℤ → Values → Option SendRefusal
 send_refusal schema e row route vs =
     if not (is_open e.state) then Some refusal.Closed else
@@ -89,7 +90,7 @@ send_refusal schema e row route vs =
 abbrev pub send_line : MessageRow → Message → Values → What
 send_line row m vs = if is_sync_row row then what.Call m.seq m.transaction m.route m.number vs else what.Send m.seq m.route m.number vs
 
--- a lazy request goes last into the outbox, and another onto the link
+-- a lazy request goes last into the outbox, any other on the link
 abbrev pub posted_by : Bool → Message → Change
 posted_by true m = on_end (λ e. record e { outbox = e.outbox ++ m ∷ [] })
 posted_by false m = put (message m)
@@ -101,7 +102,7 @@ posted row m = posted_by row.lazy m
 abbrev pub wait_for : MessageRow → Message → StackEntry
 wait_for row m = record { frame = Wait (record { sync = true; level = row.level; seq = m.seq; transaction = m.transaction }) None; route = m.route; number = m.number; resolves = false }
 
--- what a request leaves behind at its sender: the wait of a sync one, the promise of an async one with returns
+-- what a request adds at its sender: a sync one a wait, an async one with returns a promise
 abbrev pub awaits_reply : MessageRow → Message → Change
 awaits_reply row m =
     when (is_sync_row row) (on_end (λ e. record e { stack = wait_for row m ∷ e.stack }))
@@ -111,7 +112,7 @@ awaits_reply row m =
 abbrev pub built : ℤ → ℕ → ℤ → Change
 built id protocol manager = on_end (λ e. record e { actors = e.actors ++ record { id = id; protocol = protocol; manager = manager } ∷ [] }) ▷ line (what.Built id protocol)
 
--- a constructor builds its actor under the one that it goes to
+-- a constructor builds its actor under the actor that it goes to
 abbrev pub constructs : ℤ → ℤ → Kind → Change
 constructs id route Normal = unchanged
 constructs id route (Constructor protocol) = built id protocol route
@@ -122,7 +123,7 @@ abbrev pub names_actor : ℤ → Option (List ℕ) → Change
 names_actor id None = unchanged
 names_actor id (Some name) = renamed name (Some (actor id))
 
--- what a request does as it is sent
+-- what the sending of a request does
 abbrev pub sent : MessageRow → Message → Values → Option (List ℕ) → Change
 sent row m vs name =
     line (send_line row m vs)

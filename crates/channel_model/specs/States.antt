@@ -1,4 +1,4 @@
--- What the state of an end says of all else that it keeps.
+-- What the state of an end requires of all else that it keeps.
 use Rattle.std.specs.Prelude.{◌≡◌, Bool, true, false, List, [], ◌∷◌, ◌++◌}
 use Rattle.std.specs.List.{AllByRecursion}
 use Rattle.ipdl_base.specs.declared.message.Body.{Body}
@@ -20,7 +20,7 @@ is_goodbye (Reply vs) = false
 is_goodbye (Fault reason) = false
 is_goodbye Goodbye = true
 
--- whether an item is the last that the other end has sent: a goodbye, or the mark of its death
+-- whether an item is the last that the other end sends: a goodbye, or the mark of its death
 abbrev pub is_farewell : Item → Bool
 is_farewell (item.Message m sync level) = is_goodbye m.body
 is_farewell item.Broken = true
@@ -28,23 +28,23 @@ is_farewell item.Broken = true
 abbrev pub IsOrdinary : Item → Type 0
 IsOrdinary item = is_farewell item ≡ false
 
--- What has arrived at an end of a state: at an open one nothing is a farewell, at a draining one the last alone, and
--- at one that is closed or dead nothing is left.
+-- What may have arrived at an end of a state. At an open end nothing is a farewell, at a draining end only the last
+-- item is one, and at an end that is closed or dead nothing is left.
 abbrev pub HasArrived : EndState → List Item → Type 0
 HasArrived Open items = AllByRecursion IsOrdinary items
 HasArrived Draining items = (front : List Item) × ((last : Item) × ((items ≡ front ++ last ∷ []) × (AllByRecursion IsOrdinary front × (is_farewell last ≡ true))))
 HasArrived Closed items = items ≡ []
 HasArrived Dead items = items ≡ []
 
--- a frame is no wait without an answer
+-- a frame is not an unanswered wait
 abbrev pub IsAnswered : StackFrame → Type 0
 IsAnswered frame = is_unanswered frame ≡ false
 
 abbrev pub IsSettled : PromiseEntry → Type 0
 IsSettled entry = is_pending entry.promise ≡ false
 
--- An end that is not open has nothing in its outbox, and waits for nothing. At a closed one nobody lives, and each
--- promise is settled. A dead one has no frame.
+-- An end that is not open has an empty outbox and no unanswered wait. At a closed end no actor lives, and each
+-- promise is settled. A dead end has no frame.
 pub record IsInState (e : End) : Type 0 where
   pub arrived : HasArrived e.state e.arrived
   pub outbox : is_open e.state ≡ false → e.outbox ≡ []

@@ -30,18 +30,18 @@ abbrev pub EventsHaveTheirLines : Type 0
 EventsHaveTheirLines =
     (schema : Schema) (e : End) (link : List Packet) (event : Event) (output : Output) → step schema e link event ≡ Some output → HasItsLines e output
 
--- In every history each effect stands behind an event of its side, or behind another effect of that event.
+-- In every history each effect follows an event of its side, or another effect of that event.
 abbrev pub EffectsFollowEvents : Type 0
 EffectsFollowEvents = (schema : Schema) (top : ℕ) (moves : List Move) → EffectsFollow None (history_of schema top moves)
 
--- Parts make what a step makes: its lines on the end's side, its packets and the end behind it.
+-- Parts make what a step makes: its lines on the end's side, its packets and the end after it.
 pub record IsMadeOf (Parts : List What → List Packet → End → Phase → Type 0) (side : Side) (output : Output) : Type 0 where
   pub whats : List What
   pub phase : Phase
   pub parts : Parts whats output.packets output.end phase
   pub lines : output.lines ≡ map (line_at side) whats
 
--- the delivery of the first packet on the link to an open end is one part
+-- the delivery of the first packet on the link to an open end is a single part
 abbrev pub IsDeliveryOfOnePart : Schema → End → List Packet → Output → Type 0
 IsDeliveryOfOnePart schema e link output = (packet : Packet) × (first_packet link ≡ Some packet) × (is_open e.state ≡ true) × IsMadeOf (DeliveryPart schema packet e) e.side output
 
@@ -50,22 +50,23 @@ abbrev pub IsStepOfParts : Schema → End → List Packet → Event → Output �
 IsStepOfParts schema e link event.deliver output = IsDeliveryOfOnePart schema e link output
 IsStepOfParts schema e link _ output = IsMadeOf (OwnParts schema e) e.side output
 
--- Every step is made of parts: a delivery is one, and all else is one that it begins with and others that follow.
+-- Every step is made of parts: a delivery is a single part; any other step is a first part and the parts that follow
+-- it.
 abbrev pub StepsAreMadeOfParts : Type 0
 StepsAreMadeOfParts =
     (schema : Schema) (e : End) (link : List Packet) (event : Event) (output : Output) → step schema e link event ≡ Some output → IsStepOfParts schema e link event output
 
--- Actors stay known: a step whose packet, if it delivers one, is not refused keeps them so.
+-- A step keeps the actors of an end known, if the packet that it delivers, if any, is not refused.
 abbrev pub KnownActorsStay : Type 0
 KnownActorsStay =
     (schema : Schema) (protocol : ℕ) (e : End) (link : List Packet) (event : Event) (output : Output)
     → step schema e link event ≡ Some output → IsAccepted schema e link event → AreKnown protocol (ids_of schema e) → AreKnown protocol (ids_of schema output.end)
 
--- At an end as it begins the top actor alone is known.
+-- At the beginning an end has the top actor alone, and its actors are known.
 abbrev pub FirstActorsAreKnown : Type 0
 FirstActorsAreKnown = (schema : Schema) (protocol : ℕ) (side : Side) → AreKnown protocol (ids_of schema (opening_end protocol side))
 
--- Every step keeps what the state of an end says, where its actors are known.
+-- After every step an end is as its state requires, where its actors are known.
 abbrev pub StatesStay : Type 0
 StatesStay =
     (schema : Schema) (protocol : ℕ) (e : End) (link : List Packet) (event : Event) (output : Output)
@@ -74,7 +75,7 @@ StatesStay =
 abbrev pub FirstStates : Type 0
 FirstStates = (protocol : ℕ) (side : Side) → IsInState (opening_end protocol side)
 
--- Every step keeps promises numbered, so the next request has a number that no promise has.
+-- Every step keeps promises numbered. So the next request has a number that no promise has.
 abbrev pub NumbersStay : Type 0
 NumbersStay =
     (schema : Schema) (e : End) (link : List Packet) (event : Event) (output : Output)
@@ -89,24 +90,24 @@ NumbersInEveryRun =
     (schema : Schema) (top : ℕ) (moves : List Move)
     → AreNumbered (requests_of (run schema moves (opening top)).world.parent) × AreNumbered (requests_of (run schema moves (opening top)).world.child)
 
--- A step leaves an end that fits, and each of its packets fits.
+-- After a step the end fits, and so does each packet of the step.
 pub record FitsOutput (schema : Schema) (output : Output) : Type 0 where
   pub end : IsFitting schema output.end
   pub packets : AllByRecursion (FitsPacket schema) output.packets
 
--- What an end keeps and sends fits a sound schema, while it has sent, the step counted, at most 2^28 requests and nothing
--- is delivered that does not fit or is refused.
+-- What an end keeps and sends fits a sound schema, as long as it has sent at most 2^28 requests, this step included,
+-- and the packet that is delivered fits and is not refused.
 abbrev pub FittingEndsStay : Type 0
 FittingEndsStay =
     (schema : Schema) (e : End) (link : List Packet) (event : Event) (output : Output)
     → step schema e link event ≡ Some output → IsSound schema → IsCounted e → output.end.sent ≤ 268435456 → IsFittingDelivery schema e link event → IsFitting schema e → FitsOutput schema output
 
--- An end fits, and its counts do, as it begins.
+-- At the beginning an end fits, and its counts are consistent (`IsCounted`).
 abbrev pub FirstEndsFit : Type 0
 FirstEndsFit = (schema : Schema) (protocol : ℕ) (side : Side) → IsFitting schema (opening_end protocol side) × IsCounted (opening_end protocol side)
 
--- Every step adds at most one to the requests that were sent, and to those that were delivered; and so no more wait in
--- the outbox, and no more are constructors, than were sent.
+-- Every step adds at most one to the number of requests that were sent, and to the number delivered. So the counts of
+-- an end stay consistent (`IsCounted`).
 abbrev pub CountsGrow : Type 0
 CountsGrow = (schema : Schema) (e : End) (link : List Packet) (event : Event) (output : Output) → step schema e link event ≡ Some output → HasCounted e output.end × (IsCounted e → IsCounted output.end)
 

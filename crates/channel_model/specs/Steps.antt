@@ -23,7 +23,8 @@ abbrev pub first_packet : List Packet → Option Packet
 first_packet [] = None
 first_packet (packet ∷ rest) = Some packet
 
--- What an event at an end makes, where the link toward the end carries these packets; nothing where it is not possible.
+-- What an event at an end makes, given the packets on the link toward the end; `None` where the event is not
+-- possible.
 abbrev pub step : Schema → End → List Packet → Event → Option Output
 step schema e link (event.send route number vs name) = option_and_then (λ row. provided (may_send schema e row vs name) (send schema e row route vs name) e) (request_row schema number)
 step schema e link (event.answer by vs) = option_and_then (λ row. provided (may_answer schema e row vs) (answer schema e row by vs) e) (answered_row schema e by)

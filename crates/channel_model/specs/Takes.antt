@@ -1,4 +1,4 @@
--- Takes of arrived items.
+-- How an end takes arrived items.
 use Rattle.std.specs.Prelude.{ℤ, pos, Bool, true, false, ◌&&◌, ◌||◌, if◌then◌else◌, List, ◌∷◌, find, map, Option, Some, None, unwrap_or}
 use Rattle.std.specs.Option.{option_map_or}
 use Rattle.ipdl_base.specs.declared.line.What.{What}
@@ -18,10 +18,10 @@ use Rattle.nesting_core.specs.declared.frame.StackTop.{StackTop}
 use Rattle.nesting_core.specs.declared.frame.StackTop.TheVariants as top
 use Rattle.nesting_core.specs.Deferral.{awaited_level, inner_transaction}
 use Rattle.nesting_core.specs.Top.{top_of}
-use Rattle.pending_queue.specs.declared.holding.Holding.{Holding}
+use Rattle.pending_queue.specs.declared.deferral_context.DeferralContext.{DeferralContext}
 use Rattle.pending_queue.specs.declared.item.Item.{Item}
 use Rattle.pending_queue.specs.declared.item.Item.TheVariants as item
-use Rattle.pending_queue.specs.Holding.{is_free, without_first}
+use Rattle.pending_queue.specs.DeferralContext.{is_free, without_first}
 use Rattle.promise_table.specs.declared.promise.Outcome.{Outcome}
 use Rattle.promise_table.specs.declared.promise.Outcome.TheVariants.{Resolved, Rejected}
 use Rattle.promise_table.specs.Promises.{has_number, is_pending, settled}
@@ -35,13 +35,13 @@ use Rattle.channel_model.specs.Outputs.{Change, ◌▷◌, unchanged, when, on_e
 use Rattle.channel_model.specs.Sends.{frames_of, constructs}
 use Rattle.channel_model.specs.ValueActors.{lives_as, missing, nulled, received}
 
--- what an end awaits, which says what it defers
-abbrev pub holding_of : End → Holding
-holding_of e = record { side = e.side; level = awaited_level (frames_of e); transaction = unwrap_or (inner_transaction (frames_of e)) (pos 0) }
+-- what an end waits for, which decides what it defers
+abbrev pub deferral_context_of : End → DeferralContext
+deferral_context_of e = record { side = e.side; level = awaited_level (frames_of e); transaction = unwrap_or (inner_transaction (frames_of e)) (pos 0) }
 
 -- the oldest item that is not deferred
 abbrev pub first_free : End → Option Item
-first_free e = find (is_free (holding_of e)) e.arrived
+first_free e = find (is_free (deferral_context_of e)) e.arrived
 
 abbrev pub takes_in_state : EndState → Bool
 takes_in_state Open = true
@@ -99,7 +99,7 @@ dropped row m id =
 abbrev pub dispatch_of : MessageRow → Message → StackEntry
 dispatch_of row m = record { frame = Dispatch (record { sync = is_sync_row row; level = row.level; seq = m.seq; transaction = m.transaction }); route = m.route; number = m.number; resolves = makes_promise row }
 
--- a request is handled, with nulls put in
+-- a request is handled, with null in the place of dead actors
 abbrev pub handled : MessageRow → Message → Values → Change
 handled row m vs =
     line (what.Take m.seq m.route m.number vs)
@@ -114,7 +114,7 @@ abbrev pub request_taken : Schema → Message → Values → MessageRow → Chan
 request_taken schema m vs row output =
     dropped_or_handled (dropped_for schema output.end row m vs) row m (nulled schema output.end.actors row.params vs) output
 
--- a request of a message that is not there would be dropped for its actor
+-- a request of a message that is not in the schema would be dropped, for the actor that it went to
 abbrev pub body_taken : Schema → Message → Body → Change
 body_taken schema m (Request vs) = by_row schema m (request_taken schema m vs) (line (what.Drop m.seq m.route m.number m.route))
 body_taken schema m (Reply vs) = line (what.TakeReply m.seq) ▷ by_row schema m (reply_taken schema m (answer.Ok vs)) unchanged
@@ -127,4 +127,4 @@ item_taken schema item.Broken = line what.ShutAbnormal ▷ closed AbnormalShutdo
 
 -- an item is taken
 abbrev pub take : Schema → Item → Change
-take schema taken = on_end (λ e. record e { arrived = without_first (is_free (holding_of e)) e.arrived }) ▷ item_taken schema taken
+take schema taken = on_end (λ e. record e { arrived = without_first (is_free (deferral_context_of e)) e.arrived }) ▷ item_taken schema taken

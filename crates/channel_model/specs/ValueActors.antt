@@ -1,4 +1,4 @@
--- The actors that values speak of: which of them live, and what is put in for those that do not.
+-- The actors that values refer to: which of them live, and what replaces those that do not.
 use Rattle.std.specs.Prelude.{ℕ, ◌==◌, ℤ, pos, Bool, true, false, not, ◌&&◌, if◌then◌else◌, List, [], ◌∷◌, ◌++◌, find, Option, is_some, option_map, unwrap_or}
 use Rattle.std.specs.List.{list_any}
 use Rattle.std.specs.Option.{option_map_or}
@@ -19,7 +19,7 @@ use Rattle.nesting_core.specs.declared.frame.Answer.{Answer}
 use Rattle.nesting_core.specs.declared.frame.Answer.TheVariants as answer
 use Rattle.value_types.specs.Shapes.{element_of, held_by, fields_of, component_of}
 
--- An actor in a value: its id, and the protocol of its type with whether that is nullable.
+-- An actor in a value: its id, the protocol of its type, and whether that type is nullable.
 pub record ActorValue : Type 0 where
   pub id : ℤ
   pub protocol : ℕ
@@ -29,7 +29,7 @@ abbrev pub actor_at : Shape → ℤ → List ActorValue
 actor_at (Actor protocol nullable) id = record { id = id; protocol = protocol; nullable = nullable } ∷ []
 actor_at _ id = []
 
--- The actors in a value of a type, in the order in which they stand. What is not of its type is passed over.
+-- The actors in a value of a type, in their order in the value. A value that is not of its type is skipped.
 abbrev mutual
   pub actors_in : Schema → Shape → Value → List ActorValue
   actors_in schema shape (value.Bool b) = []
@@ -70,16 +70,17 @@ is_dead actors a = not (lives_as actors a.protocol a.id)
 abbrev pub missing : Schema → List LivingActor → List ParamRow → Values → Option ℤ
 missing schema actors types vs = option_map (λ a. a.id) (find (λ a. not a.nullable && is_dead actors a) (actors_in_parts schema types vs))
 
--- whether some actor, if it is not null, is dead
+-- whether some actor that is not null is dead
 abbrev pub has_dead : Schema → List LivingActor → List ParamRow → Values → Bool
 has_dead schema actors types vs = list_any (λ a. not (int_eq a.id (pos 0)) && is_dead actors a) (actors_in_parts schema types vs)
 
--- the id that is received for an id of a type: null for a dead one of a nullable type
+-- the id that is received for an id of a type: null for a dead actor of a nullable type
 abbrev pub received_id : List LivingActor → Shape → ℤ → ℤ
 received_id actors (Actor protocol true) id = if lives_as actors protocol id then id else pos 0
 received_id actors _ id = id
 
--- A value of a type with null in the place of each dead actor of a nullable type. What is not of its type stays.
+-- A value of a type with null in the place of each dead actor of a nullable type. A value that is not of its type
+-- stays.
 abbrev mutual
   pub nulled_value : Schema → List LivingActor → Shape → Value → Value
   nulled_value schema actors shape (value.Bool b) = value.Bool b
@@ -108,8 +109,8 @@ abbrev mutual
   nulled schema actors (field ∷ fields) values.Nothing = values.Nothing
   nulled schema actors (field ∷ fields) (First' at v rest_at vs) = First' at (nulled_value schema actors field.shape v) rest_at (nulled schema actors fields vs)
 
--- What an answer to a request of the message is at its sender: a fault stays; values become the fault ActorDestroyed
--- where a dead actor of them has a type that is not nullable, and else have null for the others that are dead.
+-- What the sender of a request receives as its answer. A fault stays. Values become the fault `ActorDestroyed` where
+-- a dead actor among them has a type that is not nullable; otherwise null takes the place of the other dead actors.
 abbrev pub received : Schema → List LivingActor → MessageRow → Answer → Answer
 received schema actors row (answer.Fault reason) = answer.Fault reason
 received schema actors row (answer.Ok vs) =

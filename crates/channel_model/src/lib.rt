@@ -1,6 +1,8 @@
-//! The two ends of a channel as definitions: what an end keeps, what each kind of step does to it, the lines that it
-//! prints and the packets that it sends; and the laws of them that one end keeps by itself, part by part
-//! (docs/channel.md). No function that runs.
+//! The two ends of a channel as definitions: what an end keeps, what each kind of step does to it, the lines
+//! that it
+//! prints and the packets that it sends. Also the laws that one end keeps, part by part (docs/channel.md). No
+//! function
+//! of this crate computes anything.
 #![tactic(auto)]
 
 mod laws;

@@ -1,48 +1,52 @@
+//! Laws of the steps of one end, for every schema and every list of moves.
 ghost use Rattle.channel_model.specs.StepLaws.{CountsGrow, EffectsFollowEvents, EventsHaveTheirLines, FirstActorsAreKnown, FirstEndsFit, FirstStates, FittingEndsStay, KnownActorsStay, NextNumberIsFree, NumbersInEveryRun, NumbersStay, StatesStay, StepsAreBounded, StepsAreMadeOfParts};
 
-/// The law of parts: every step is made of parts; a delivery is one, and all else is one that it begins with and others
-/// that follow.
+/// The law of parts: every step is made of parts. A delivery is a single part; any other step is a first part
+/// and the parts that follow it.
 pub fn steps_are_made_of_parts()
     ensures { StepsAreMadeOfParts }
 {}
 
-/// The law of an event's lines: one line of the event and then those of its effects, all of the end's side.
+/// The law of an event's lines: an event prints its own line and then those of its effects, all on the end's
+/// side.
 pub fn events_have_their_lines()
     ensures { EventsHaveTheirLines }
 {}
 
-/// The law of effects: each stands behind an event of its side, or behind another effect of that event.
+/// The law of effects: each effect follows an event of its side, or another effect of that event.
 pub fn effects_follow_events()
     ensures { EffectsFollowEvents }
 {}
 
-/// The law of first actors: an end begins with the top actor alone, which is known.
+/// The law of first actors: at the beginning an end has the top actor alone, and its actors are known.
 pub fn first_actors_are_known()
     ensures { FirstActorsAreKnown }
 {}
 
-/// The law of known actors: every step keeps the living actors a tree, with ids that are taken, and the new ids that
-/// have arrived free, where an end delivers nothing that it refuses.
+/// The law of known actors: every step keeps the living actors a tree with ids that are taken, and keeps the
+/// new ids that have arrived free, if the end refuses no packet that is delivered.
 pub fn known_actors_stay()
     ensures { KnownActorsStay }
 {}
 
-/// The law of first states: an end begins as its state says.
+/// The law of first states: at the beginning an end is as its state requires.
 pub fn first_states()
     ensures { FirstStates }
 {}
 
-/// The law of states: every step keeps what the state of an end says of all else that it keeps.
+/// The law of states: after every step all that an end keeps is as its state requires, if its actors are
+/// known.
 pub fn states_stay()
     ensures { StatesStay }
 {}
 
-/// The law of numbers: every step keeps promises with numbers of requests that were sent, no two with one.
+/// The law of numbers: after every step each promise has the number of a request that was sent, and no two
+/// promises share one.
 pub fn numbers_stay()
     ensures { NumbersStay }
 {}
 
-/// The law of the next number: no promise has it.
+/// The law of the next number: no promise has the number of the next request.
 pub fn next_number_is_free()
     ensures { NextNumberIsFree }
 {}
@@ -52,23 +56,25 @@ pub fn numbers_in_every_run()
     ensures { NumbersInEveryRun }
 {}
 
-/// The law of first ends: one fits the schema as it begins.
+/// The law of first ends: at the beginning an end fits the schema.
 pub fn first_ends_fit()
     ensures { FirstEndsFit }
 {}
 
-/// The law of fitting ends: what an end keeps and sends fits a sound schema, where nothing is delivered to it that does
-/// not fit or that it refuses.
+/// The law of fitting ends: what an end keeps and sends fits a sound schema, as long as it has sent at most
+/// 2^28 requests and each packet that is delivered to it fits and is not refused.
 pub fn fitting_ends_stay()
     ensures { FittingEndsStay }
 {}
 
-/// The law of counts: every step adds at most one to the requests that were sent, and to those that were delivered.
+/// The law of counts: every step adds at most one to the number of requests that were sent, and to the number
+/// delivered.
 pub fn counts_grow()
     ensures { CountsGrow }
 {}
 
-/// The law of bounds: every step prints few lines more than it settles, and adds at most two packets.
+/// The law of bounds: every step prints at most five lines more than the number of things that it settles,
+/// and adds at most two packets, if the actors of the end are known.
 pub fn steps_are_bounded()
     ensures { StepsAreBounded }
 {}

@@ -1,5 +1,7 @@
+//! Rows on the calls that wait after some lines.
+
 /// Histories. Each row: its name and the file of its protocol; then, for some numbers of lines, which
-/// calls wait behind so many; and behind `@` its lines. `====` stands between two rows.
+/// calls wait after that many lines; and after `@` its lines. `====` is between two rows.
 pub const CHAINS: &str = "PW-07 PW.ipdl
 0: nobody
 8: child -1, parent 1, child -2
@@ -392,5 +394,5 @@ child take reply -2
   settle -2 rejected ResolverDestroyed
 ";
 
-/// For how many numbers of lines they say which calls wait.
+/// The number of questions which calls wait after some lines.
 pub const CHAINS_COUNT: &str = "45";

@@ -1,3 +1,4 @@
+//! Tests of the calls that wait after some lines.
 ghost use Rattle.ipdl_base.specs.Sound.{IsSound};
 
 use super::chain_rows::{CHAINS, CHAINS_COUNT};
@@ -5,12 +6,12 @@ use super::given::note;
 use history::History;
 use history_of_text::{history_of, schema_of};
 use ipdl_base::{Schema, Side};
-use law_checks::{Held, can_read, chain};
+use reading_checks::{UnansweredCall, can_read, chain};
 use std::alloc::{AllocError, Global};
 use std::test::Fail;
 
 /// Calls, each as its end and its number, with a comma between each two.
-pub fn show(alloc: Global, calls: &[Held]) -> Result<String, AllocError> {
+pub fn show(alloc: Global, calls: &[UnansweredCall]) -> Result<String, AllocError> {
     if calls.is_empty() {
         return String::from_str(alloc, "nobody");
     }
@@ -26,7 +27,7 @@ pub fn show(alloc: Global, calls: &[Held]) -> Result<String, AllocError> {
     Ok(shown)
 }
 
-/// The unanswered calls behind the first lines of a history.
+/// The unanswered calls after the first lines of a history.
 pub fn waiting(
     alloc: Global,
     schema: &Schema,
@@ -45,7 +46,8 @@ pub fn waiting(
     show(alloc, calls.as_slice())
 }
 
-/// Notes the answers of the history of a row that are others than wanted, and counts what is asked.
+/// Notes the answers for the history of a row that differ from the expected ones, and counts the
+/// questions.
 fn check_asked(
     alloc: Global,
     schema: &Schema,
@@ -77,7 +79,7 @@ fn check(alloc: Global, row: &str, wrong: &mut String) -> Result<u32, Fail> {
     check_asked(alloc, &schema, &history, name, wanted, wrong)
 }
 
-/// The answers that are others than wanted, and how many there are of all.
+/// Returns the answers that differ from the expected ones, and the number of all.
 fn checked(alloc: Global) -> Result<String, Fail> {
     let mut shown = String::new(alloc);
     let mut count = 0u32;
@@ -88,7 +90,7 @@ fn checked(alloc: Global) -> Result<String, Fail> {
     Ok(shown)
 }
 
-/// Which calls wait behind some lines, the oldest first.
+/// Which calls wait after some lines, the oldest first.
 #[test]
 fn chains(rt: HostRuntime) -> Result<(), Fail> {
     assert_eq!(rt; checked(rt.alloc())?.as_str(), CHAINS_COUNT);

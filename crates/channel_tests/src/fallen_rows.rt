@@ -1,3 +1,5 @@
+//! Rows on the law Fallen.
+
 /// Lists of lines that the law Fallen does not hold of, in the same form.
 pub const FALLEN: &str = "PR-03-b PR.ipdl ynyyn
 Living: built by no constructor; Fallen: built under a fallen one
@@ -153,5 +155,5 @@ child refused Closed close
 parent refused Closed close
 ";
 
-/// How many they are.
+/// The number of rows.
 pub const FALLEN_COUNT: &str = "9";

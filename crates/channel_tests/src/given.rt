@@ -1,3 +1,4 @@
+//! Which laws hold of a history, as text.
 ghost use Rattle.ipdl_base.specs.Sound.{IsSound};
 
 use history::History;
@@ -26,7 +27,7 @@ pub fn laws(alloc: Global, schema: &Schema, history: &History) -> Result<String,
     Ok(shown)
 }
 
-/// Notes what came out of a row, where it is not what the row wants.
+/// Notes the result of a row, if it differs from the expected one.
 pub fn note(row: &str, found: &str, wanted: &str, wrong: &mut String) -> Result<(), AllocError> {
     if found == wanted {
         Ok(())

@@ -1,10 +1,11 @@
+//! A test of the laws on a long history.
 use super::chains::waiting;
 use super::given::laws;
 use history_of_text::{history_of, schema_of};
 use std::alloc::{AllocError, Global};
 use std::test::Fail;
 
-/// How often the parent asks the child, which answers nothing.
+/// The number of times that the parent asks the child, which does not answer.
 const ROUNDS: u32 = 667;
 
 /// Appends the lines of a question that is settled.
@@ -31,8 +32,8 @@ child shut NormalShutdown
   fall 2147483647 NormalShutdown
 ";
 
-/// The lines of so many questions, each settled before the next, and of a closing: some 2,000 events
-/// of each end.
+/// The lines of that many questions, each settled before the next, and of a closing: some 2,000
+/// events of each end.
 fn lines(alloc: Global) -> Result<String, AllocError> {
     let mut text = String::new(alloc);
     for round in 0..ROUNDS {
@@ -42,7 +43,7 @@ fn lines(alloc: Global) -> Result<String, AllocError> {
     Ok(text)
 }
 
-/// Which laws hold of the long history, and which calls wait behind it.
+/// Which laws hold of the long history, and which calls wait after it.
 fn shown(alloc: Global) -> Result<String, Fail> {
     let schema = schema_of(alloc, "PQ.ipdl")?;
     let history = history_of(alloc, &schema, lines(alloc)?.as_str())?;

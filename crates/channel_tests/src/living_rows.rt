@@ -1,3 +1,5 @@
+//! Rows on the law Living.
+
 /// Lists of lines that the law Living does not hold of, in the same form.
 pub const LIVING: &str = "PR-01-c PR.ipdl ynyyy
 Living: built again
@@ -202,5 +204,5 @@ child deliver request 3
 child deliver request 4
 ";
 
-/// How many they are.
+/// The number of rows.
 pub const LIVING_COUNT: &str = "10";

@@ -1,6 +1,8 @@
+//! Rows on the law Prefix.
+
 /// Lists of lines that the law Prefix does not hold of. Each row: its name, the file of its protocol, and
 /// whether each law holds of it, in the order Prefix, Living, Waits, Settled, Fallen; on the next line
-/// what breaks the laws that do not hold; and then its lines. `====` stands between two rows.
+/// what breaks the laws that do not hold; and then its lines. `====` is between two rows.
 pub const PREFIX: &str = "POwn-02-a POwn.ipdl nyyyy
 Prefix: deliver
 parent send 1 to 2147483647 POwn.Mark(null)
@@ -120,5 +122,5 @@ parent deliver request -2
 child send -4 to 2147483647 PQ.Get()
 ";
 
-/// How many they are.
+/// The number of rows.
 pub const PREFIX_COUNT: &str = "10";

@@ -1,5 +1,7 @@
+//! Rows of worked runs.
+
 /// Worked runs. Each row: its name and the file of its protocol, and then the lines that were printed.
-/// `====` stands between two rows.
+/// `====` is between two rows.
 pub const RUNS: &str = "both-call-at-once PW.ipdl
 parent call 1/1 to 2147483647 PW.CallC()
 child call -1/-1 to 2147483647 PW.CallP()
@@ -270,5 +272,5 @@ parent return -2
   fall 4 Deletion
 ";
 
-/// How many they are.
+/// The number of rows.
 pub const RUNS_COUNT: &str = "11";

@@ -1,3 +1,5 @@
+//! Rows on the law Settled.
+
 /// Lists of lines that the law Settled does not hold of, in the same form.
 pub const SETTLED: &str = "PC-01-c PC.ipdl yyyny
 Settled: ActorDestroyed
@@ -110,5 +112,5 @@ child resolve 1 (79)
 parent deliver request -1
 ";
 
-/// How many they are.
+/// The number of rows.
 pub const SETTLED_COUNT: &str = "8";

@@ -1,3 +1,4 @@
+//! Tests of worked runs: their text, and the laws.
 use super::given::{laws, note};
 use super::run_rows::{RUNS, RUNS_COUNT};
 use history::history_text;
@@ -21,7 +22,7 @@ fn check(alloc: Global, row: &str, wrong: &mut String) -> Result<(), Fail> {
     Ok(note(name, str::from_utf8(text.as_slice())?, lines, wrong)?)
 }
 
-/// The runs that are printed otherwise, and how many there are.
+/// Returns the runs that are printed otherwise, and the number of runs.
 fn checked(alloc: Global) -> Result<String, Fail> {
     let mut shown = String::new(alloc);
     let mut count = 0u32;

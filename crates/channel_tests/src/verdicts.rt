@@ -1,3 +1,4 @@
+//! Tests of the laws on lists of lines.
 use super::fallen_rows::{FALLEN, FALLEN_COUNT};
 use super::given::{laws, note};
 use super::living_rows::{LIVING, LIVING_COUNT};
@@ -16,8 +17,8 @@ fn verdict(alloc: Global, word: &str, lines: &str) -> Result<String, Fail> {
     Ok(laws(alloc, &schema, &history)?)
 }
 
-/// Notes a row whose verdicts are others. It has its name, the file of its protocol and the verdicts;
-/// what is broken; and then its lines.
+/// Notes a row with other verdicts. It has its name, the file of its protocol and the verdicts; what
+/// is broken; and then its lines.
 fn check(alloc: Global, row: &str, wrong: &mut String) -> Result<(), Fail> {
     let (head, about) = row.split_once("\n").ok_or("a row of one line")?;
     let (name, given) = head.split_once(" ").ok_or("a row without its file")?;
@@ -27,7 +28,7 @@ fn check(alloc: Global, row: &str, wrong: &mut String) -> Result<(), Fail> {
     Ok(note(name, found.as_str(), wanted, wrong)?)
 }
 
-/// The rows of a table whose verdicts are others, with what was found, and how many rows there are.
+/// Returns the rows of a table with other verdicts, with the results, and the number of rows.
 fn checked(alloc: Global, table: &str) -> Result<String, Fail> {
     let mut shown = String::new(alloc);
     let mut count = 0u32;

@@ -1,3 +1,5 @@
+//! Rows on the law Waits.
+
 /// Lists of lines that the law Waits does not hold of, in the same form.
 pub const WAITS: &str = "PM-01-d PM.ipdl yynyy
 Waits: c1
@@ -162,5 +164,5 @@ child resume -1 ok ()
 parent call 3/3 to 2147483647 PW.CallC()
 ";
 
-/// How many they are.
+/// The number of rows.
 pub const WAITS_COUNT: &str = "11";

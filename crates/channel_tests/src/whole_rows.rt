@@ -1,5 +1,7 @@
-/// Lists of lines of which all laws hold, and such that no law holds of since they are not readable, in
-/// the same form.
+//! Rows of which all laws hold, or none.
+
+/// Lists of lines of which all laws hold, and lists of which no law holds because they are not
+/// readable, in the same form.
 pub const WHOLE: &str = "POwn-02-c POwn.ipdl nnnnn
 not readable: return of no dispatch on top
 parent send 1 to 2147483647 POwn.Mark(null)
@@ -252,5 +254,5 @@ parent let b 0
 child flush 1
 ";
 
-/// How many they are.
+/// The number of rows.
 pub const WHOLE_COUNT: &str = "14";

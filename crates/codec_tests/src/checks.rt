@@ -1,11 +1,12 @@
+//! Checks of rows.
 use std::process::Abort;
 
-/// Compares what is found with what is wanted, and names the row where they differ.
+/// Asserts that what is found is what is expected, and names the row otherwise.
 pub fn check(rt: &impl Abort, row: &str, found: &str, wanted: &str) {
     assert_eq!(rt; found, wanted, "{row}");
 }
 
-/// Sees that a text has so many lines.
+/// Asserts that a text has this number of lines.
 pub fn check_count(rt: &impl Abort, rows: &str, wanted: u32) {
     let mut count = 0u32;
     for _ in rows.split("\n") {
@@ -14,7 +15,7 @@ pub fn check_count(rt: &impl Abort, rows: &str, wanted: u32) {
     assert!(rt; count == wanted, "{count} rows");
 }
 
-/// A text up to the first of these, and what stands behind that.
+/// Splits a text at the first of these marks.
 pub fn cut<'t>(text: &'t str, mark: &str) -> (&'t str, &'t str) {
     text.split_once(mark).unwrap_or((text, ""))
 }

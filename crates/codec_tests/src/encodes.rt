@@ -1,3 +1,4 @@
+//! Rows of messages that are encoded.
 ghost use Rattle.ipdl_base.specs.Sound.{IsSound};
 ghost use Rattle.value_types.specs.Fits.{Fits};
 
@@ -8,7 +9,7 @@ use ipdl_base::{Message, Schema};
 use std::alloc::Global;
 use std::process::Abort;
 use std::test::Fail;
-use value_codec::{Decoded, decode, decode_old, encode, frame_size};
+use value_codec::{DecodeResult, decode, decode_old, encode, frame_size};
 
 /// Rows `OLD: NEW`: an old frame, and the new frame of its message.
 const ENCODES: &str =
@@ -30,10 +31,10 @@ const ENCODES: &str =
 01000000ffffff7f1b00010018000000010000000000000005: 4950443204000000ffffff7f1b00010018000000010000000000000005000000
 00000000000000000000ffff000000000000000000000000: 4950443200000000000000000000ffff000000000000000000000000";
 
-/// How many rows stand there.
+/// The number of rows.
 const ENCODES_COUNT: u32 = 17;
 
-/// The size of a message's new frame, and that frame behind a byte that stands there before.
+/// Returns the size of a message's new frame, and the frame appended to one byte.
 pub fn framed(alloc: Global, schema: &Schema, message: &Message) -> Result<String, Fail>
     requires sound { IsSound schema.now }
     requires fits { Fits schema.now message.now }
@@ -50,7 +51,7 @@ pub fn framed(alloc: Global, schema: &Schema, message: &Message) -> Result<Strin
     Ok(format!(in alloc; "{size} {digits}")?)
 }
 
-/// The size and the new frame of the message that bytes begin with.
+/// Returns the size and the new frame of the message that bytes begin with.
 fn again(alloc: Global, schema: &Schema, old: bool, digits: &str) -> Result<String, Fail>
     requires { IsSound schema.now }
 {
@@ -61,12 +62,13 @@ fn again(alloc: Global, schema: &Schema, old: bool, digits: &str) -> Result<Stri
         decode(alloc, schema, bytes.as_slice())
     };
     match &decoded {
-        Decoded::Frame(message, _) => framed(alloc, schema, message),
+        DecodeResult::Frame(message, _) => framed(alloc, schema, message),
         _ => Err("no frame".into()),
     }
 }
 
-/// Sees that the message of an old frame and that of its new one are written as the new one.
+/// Checks that the message of an old frame, and the message of its new frame, are both written as the new
+/// frame.
 fn check_row(rt: &impl Abort, alloc: Global, schema: &Schema, row: &str) -> Result<(), Fail>
     requires { IsSound schema.now }
 {

@@ -1,4 +1,4 @@
-//! Tests of the codec over one program: bytes with what they begin, and messages with their frames.
+//! Tests of the codec over one program: bytes and what they begin with, and messages and their frames.
 #![tactic(auto)]
 
 #[cfg(test)]

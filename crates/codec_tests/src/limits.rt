@@ -1,3 +1,4 @@
+//! Tests of the greatest payload.
 ghost use Rattle.std.specs.Prelude.{◌≡◌, true, Some, [], IfOk};
 ghost use Rattle.ipdl_base.specs.Sound.{IsSound, message_of};
 ghost use Rattle.value_types.specs.Fits.{Fits, actor_ids, all_actor_ids};
@@ -8,13 +9,13 @@ use super::shown::digits_of;
 use ipdl_base::{Body, Kind, Message, MessageRow, Name, Schema, Semantics, Value, Values};
 use std::alloc::{AllocError, Global};
 use std::test::Fail;
-use value_codec::{Decoded, EncodeFault, decode, encode, frame_size};
+use value_codec::{DecodeResult, EncodeFault, decode, encode, frame_size};
 use value_types::values_fit;
 
 /// The number of a request with a text, bytes, and bytes of two other types.
 const TEXTS: u32 = 65548;
 
-/// Whether a value is a text or bytes.
+/// Returns whether a value is a text or bytes.
 fn is_text(value: &Value) -> bool
     ensures { result ≡ true → actor_ids value.now ≡ [] }
 {
@@ -24,7 +25,7 @@ fn is_text(value: &Value) -> bool
     }
 }
 
-/// Whether values are texts or bytes.
+/// Returns whether all values are texts or bytes.
 fn are_texts(values: &Values) -> bool
     ensures { result ≡ true → all_actor_ids values.now ≡ [] }
 {
@@ -34,7 +35,7 @@ fn are_texts(values: &Values) -> bool
     }
 }
 
-/// A request of these values, for an actor and with a number that any message may have.
+/// Returns a request with these values, for an actor and with a number that any message may have.
 fn request(schema: &Schema, row: &MessageRow, number: u32, values: Values) -> Result<Message, Fail>
     requires { message_of schema.now number ≡ Some row.now }
     ensures { IfOk result (Fits schema.now) }
@@ -62,7 +63,7 @@ fn before(alloc: Global, first: Value, rest: Values) -> Result<Values, AllocErro
     Ok(Values::First(Box::new(alloc, first)?, Box::new(alloc, rest)?))
 }
 
-/// An empty text, so many bytes, and no bytes twice.
+/// Returns an empty text, `count` bytes, and twice no bytes.
 fn values_of(alloc: Global, count: usize) -> Result<Values, AllocError> {
     let mut bytes = Vec::with_capacity(alloc, count)?;
     for _ in 0..count {
@@ -77,7 +78,7 @@ fn values_of(alloc: Global, count: usize) -> Result<Values, AllocError> {
     before(alloc, text, values)
 }
 
-/// The message with so many bytes in one of its values.
+/// Returns a message with `count` bytes in one of its values.
 fn values_message(alloc: Global, schema: &Schema, count: usize) -> Result<Message, Fail>
     requires { IsSound schema.now }
     ensures { IfOk result (Fits schema.now) }
@@ -89,7 +90,7 @@ fn values_message(alloc: Global, schema: &Schema, count: usize) -> Result<Messag
     }
 }
 
-/// The frame that bytes begin with: whether it is that of the message, and its size.
+/// Decodes the frame that bytes begin with: whether it is that of the message, and its size.
 fn read_text(
     alloc: Global,
     schema: &Schema,
@@ -99,7 +100,7 @@ fn read_text(
     requires { IsSound schema.now }
 {
     match decode(alloc, schema, bytes) {
-        Decoded::Frame(read, size) => {
+        DecodeResult::Frame(read, size) => {
             let is_same = read.same(message);
             Ok(format!(in alloc; "same {is_same} size {size}")?)
         }
@@ -107,8 +108,8 @@ fn read_text(
     }
 }
 
-/// What becomes of a message with so many bytes that is written behind two others: the size of its
-/// frame, whether it is taken, and what stands there then.
+/// Returns what happens when a message with `count` bytes is written after two other bytes: the size of its
+/// frame, whether it is accepted, and what is there then.
 fn shown(alloc: Global, schema: &Schema, message: &Message) -> Result<String, Fail>
     requires sound { IsSound schema.now }
     requires fits { Fits schema.now message.now }
@@ -128,8 +129,8 @@ fn shown(alloc: Global, schema: &Schema, message: &Message) -> Result<String, Fa
     }
 }
 
-/// The greatest payload is encoded and read again; one that is larger is refused by its size, and
-/// leaves what stands before it.
+/// The greatest payload is encoded and read again. A larger one is refused by its size, and the bytes before
+/// it are unchanged.
 #[test]
 fn limits(rt: HostRuntime) -> Result<(), Fail> {
     let alloc = rt.alloc();

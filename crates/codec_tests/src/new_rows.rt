@@ -1,5 +1,7 @@
-/// Rows `BYTES: ANSWER` of the new layout: each kind of value at its least and greatest, what is short,
-/// and each rule.
+//! Rows of the new layout.
+
+/// Rows `BYTES: ANSWER` of the new layout: each kind of value at its least and greatest, bytes that are too
+/// short, and each rule.
 pub const NEW_ROWS: &str =
     "4950443204000000ffffff7f0000010000000000ffffffff0000000000000000: 32 -1/0 to 2147483647 made 0 request Flag(false)
 4950443204000000ffffff7f0000010000000000ffffffff0000000001000000: 32 -1/0 to 2147483647 made 0 request Flag(true)
@@ -132,5 +134,5 @@ ffffffffffffffffffffffffffffffffffffffffffffffffffffff: short 1
 4950443204000000ffffff7f1b00010018000000ffffffff0000000006010000: 28 F9
 : short 28";
 
-/// How many rows stand there.
+/// The number of rows.
 pub const NEW_ROWS_COUNT: u32 = 130;

@@ -1,5 +1,7 @@
-/// Rows `BYTES: ANSWER` of the old layout: each kind of value at its least and greatest, what is short,
-/// and each rule.
+//! Rows of the old layout.
+
+/// Rows `BYTES: ANSWER` of the old layout: each kind of value at its least and greatest, bytes that are too
+/// short, and each rule.
 pub const OLD_ROWS: &str =
     "01000000ffffff7f0000010000000000ffffffff0000000000: 25 -1/0 to 2147483647 made 0 request Flag(false)
 01000000ffffff7f0000010000000000ffffffff0000000001: 25 -1/0 to 2147483647 made 0 request Flag(true)
@@ -117,5 +119,5 @@ ffffffffffffff7f0100000000000000ffffffff00000000: 0 F1
 00000000ffffff7f1b00010018000000ffffffff00000000: 24 F7
 : short 24";
 
-/// How many rows stand there.
+/// The number of rows.
 pub const OLD_ROWS_COUNT: u32 = 115;

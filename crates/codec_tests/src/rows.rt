@@ -1,3 +1,4 @@
+//! Tests of the rows of both layouts.
 ghost use Rattle.ipdl_base.specs.Sound.{IsSound};
 ghost use Rattle.value_types.specs.Fits.{Fits};
 
@@ -10,9 +11,9 @@ use super::shown::{bytes_of, decoded_text};
 use ipdl_base::{Message, Schema};
 use std::alloc::Global;
 use std::test::Fail;
-use value_codec::{Decoded, decode, decode_old};
+use value_codec::{DecodeResult, decode, decode_old};
 
-/// What the bytes of a row begin in the old layout.
+/// Returns what the bytes of a row begin with in the old layout.
 fn old_text(alloc: Global, schema: &Schema, digits: &str) -> Result<String, Fail>
     requires { IsSound schema.now }
 {
@@ -34,7 +35,7 @@ fn old_rows(rt: HostRuntime) -> Result<(), Fail> {
     Ok(())
 }
 
-/// Whether a message is written as the frame of this size that these digits begin with.
+/// Returns whether a message is written as the frame of this size that these digits begin with.
 fn is_frame(
     alloc: Global,
     schema: &Schema,
@@ -50,14 +51,14 @@ fn is_frame(
     Ok(whole.starts_with(found.as_str()))
 }
 
-/// What the bytes of a row begin in the new layout, and whether a frame there is the one which is
+/// Returns what the bytes of a row begin with in the new layout, and whether a frame there is the one that is
 /// written.
 fn new_text(alloc: Global, schema: &Schema, digits: &str) -> Result<String, Fail>
     requires { IsSound schema.now }
 {
     let bytes = bytes_of(alloc, digits)?;
     let decoded = decode(alloc, schema, bytes.as_slice());
-    if let Decoded::Frame(message, size) = &decoded {
+    if let DecodeResult::Frame(message, size) = &decoded {
         if !is_frame(alloc, schema, message, *size, digits)? {
             return Err("another frame is written".into());
         }
@@ -65,7 +66,7 @@ fn new_text(alloc: Global, schema: &Schema, digits: &str) -> Result<String, Fail
     decoded_text(alloc, schema, &decoded)
 }
 
-/// What each row says of its bytes, and that a frame there is the one which is written.
+/// Checks each row's answer for its bytes, and that a frame there is the one that is written.
 #[test]
 fn new_rows(rt: HostRuntime) -> Result<(), Fail> {
     check_count(&rt, NEW_ROWS, NEW_ROWS_COUNT);

@@ -1,12 +1,13 @@
+//! Bytes and messages as text.
 ghost use Rattle.ipdl_base.specs.Sound.{IsSound};
 
 use ipdl_base::{Body, Message, MessageRow, Reason, Schema};
 use std::alloc::Global;
 use std::test::Fail;
-use value_codec::Decoded;
+use value_codec::DecodeResult;
 use value_types::push_values;
 
-/// The bytes that pairs of hexadecimal digits spell; blanks may stand between them.
+/// Returns the bytes that pairs of hexadecimal digits spell. Blanks may be between them.
 pub fn bytes_of(alloc: Global, digits: &str) -> Result<Vec<u8>, Fail> {
     let mut bytes = Vec::new(alloc);
     let mut high = None;
@@ -25,7 +26,7 @@ pub fn bytes_of(alloc: Global, digits: &str) -> Result<Vec<u8>, Fail> {
     Ok(bytes)
 }
 
-/// Bytes as pairs of hexadecimal digits.
+/// Returns bytes as pairs of hexadecimal digits.
 pub fn digits_of(alloc: Global, bytes: &[u8]) -> Result<String, Fail> {
     let mut text = String::new(alloc);
     for byte in bytes {
@@ -43,7 +44,7 @@ fn reason_text(reason: Reason) -> &'static str {
     }
 }
 
-/// What a message of a row says.
+/// Returns the content of a message of a row.
 fn body_text(
     alloc: Global,
     schema: &Schema,
@@ -69,7 +70,7 @@ fn body_text(
     Ok(format!(in alloc; "{kind} {}({values})", str::from_utf8(row.name.as_slice())?)?)
 }
 
-/// A message in one line.
+/// Returns a message in one line.
 pub fn message_text(alloc: Global, schema: &Schema, message: &Message) -> Result<String, Fail>
     requires { IsSound schema.now }
 {
@@ -87,17 +88,17 @@ pub fn message_text(alloc: Global, schema: &Schema, message: &Message) -> Result
     )?)
 }
 
-/// What was decoded, in one line.
-pub fn decoded_text(alloc: Global, schema: &Schema, decoded: &Decoded) -> Result<String, Fail>
+/// Returns what was decoded, in one line.
+pub fn decoded_text(alloc: Global, schema: &Schema, decoded: &DecodeResult) -> Result<String, Fail>
     requires { IsSound schema.now }
 {
     match decoded {
-        Decoded::Frame(message, size) => {
+        DecodeResult::Frame(message, size) => {
             let text = message_text(alloc, schema, message)?;
             Ok(format!(in alloc; "{size} {}", text.as_str())?)
         }
-        Decoded::Short(rest) => Ok(format!(in alloc; "short {rest}")?),
-        Decoded::Bad(offset, rule) => Ok(format!(in alloc; "{offset} F{rule}")?),
-        Decoded::NoMemory => Ok(String::from_str(alloc, "no memory")?),
+        DecodeResult::Short(rest) => Ok(format!(in alloc; "short {rest}")?),
+        DecodeResult::Bad(offset, rule) => Ok(format!(in alloc; "{offset} F{rule}")?),
+        DecodeResult::NoMemory => Ok(String::from_str(alloc, "no memory")?),
     }
 }

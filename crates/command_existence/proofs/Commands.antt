@@ -1,4 +1,4 @@
--- What the words after the first word of a command say, or that they say nothing, is decided.
+-- It is decided what the words after the first word of a command mean, or that they mean nothing.
 use Rattle.std.proofs.Common.{◌≡◌, ◌≢◌, ◌⊎◌, ◌∙◌, List, [], ◌∷◌, Option, refl, sym, ap, subst, inl, inr, arith, codes}
 use Rattle.std.specs.Prelude.{slice_index}
 use Rattle.std.specs.List.{AllByRecursion}
@@ -31,14 +31,14 @@ use Rattle.command_words.proofs.Walks.{AreTexts, words_read}
 use Rattle.command_existence.proofs.Files.{files_decided, frames_operands_decided, operand_decided, rounds_word_decided, run_operands_decided, script_operands_decided}
 use Rattle.command_existence.proofs.Values.{Decided, Text, actors_decided, conversion_decided, death_decided, limit_decided, path_decided, schedule_decided, side_decided}
 
--- What words give their options
+-- What words mean for their options
 
 -- words as the parser takes them
 are_texts : (words : List Text) → AllByRecursion IsUtf8 words → AreTexts words
 are_texts [] texts = tt
 are_texts (w ∷ ws) texts = (texts.0, are_texts ws texts.1)
 
--- what words say, where they give no option twice
+-- the meaning of words that give no option twice
 pub record IsSaid (options : List Choice) (words : List Text) (said : List WordUse) : Type 0 where
   pub reads : Reads options words said
   pub once : EachOnce said
@@ -62,7 +62,7 @@ to_ne e = let first : 116 ≡ 119 = ap (λ (t : Text). slice_index t 0) e in abs
 actors_ne : codes "actors" ≢ own_id
 actors_ne e = let first : 97 ≡ 119 = ap (λ (t : Text). slice_index t 0) e in absurd (omega (arith, first))
 
--- What is said in another way has the same values and the same other words.
+-- Another meaning of the words has the same values and the same other words.
 module _ (options : List Choice) (is : IsTable options) (words : List Text) (said : List WordUse) (s : IsSaid options words said) (other : List WordUse) (o : IsSaid options words other) where
   given_so : (Holds : Option Text → Type 0) (name : Text) → name ≢ own_id → Holds (value_of name other) → Holds (value_of name said)
   given_so Holds name ne = subst Holds (same_value options words other said is o.reads o.once s.reads s.once name ne)

@@ -1,4 +1,4 @@
--- The files that words name, or that they name none, are decided.
+-- It is decided which files words name, or that they name no files.
 use Rattle.std.proofs.Common.{◌≡◌, ◌⊎◌, ◌∙◌, ℕ, ◌<◌, ◌≤◌, List, [], ◌∷◌, ◌++◌, length, refl, sym, ap, subst, inl, inr, ⊎_elim, arith, codes, append_assoc}
 use Rattle.std.proofs.lemmas.Bool.{cases_eq, cases_lt}
 use Rattle.std.proofs.lemmas.List.{append-nil}
@@ -23,7 +23,7 @@ file_or_not word = by (ends_or_not cases_eq (codes ".ipdl") word) (ends_or_not c
     by (inr no_file) (inl (front, e)) = inl (front, inr e)
     by (inr no_file) (inr no_header) = inr (λ is. ⊎_elim (λ (e : word ≡ is.0 ++ codes ".ipdl"). no_file (is.0, e)) (λ (e : word ≡ is.0 ++ codes ".ipdlh"). no_header (is.0, e)) is.1)
 
--- a word of the list has the key of another, or none has
+-- a word of the list has the key of another, or no word has it
 HasKey : List Text → Text → Text → Type 0
 HasKey words w v = HasWord words v × (key_of v ≡ key_of w)
 
@@ -41,7 +41,7 @@ key_decided (x ∷ xs) w = by (text_or_not (key_of x) (key_of w)) (key_decided x
     by (inr differ) (inl (v, h)) = inl (v, (inr h.0, h.1))
     by (inr differ) (inr later) = inr (λ v h. none differ later v h.0 h.1)
 
--- the files that more words name after those that are listed
+-- the files that more words name, after the listed ones
 listed_after : (seen rest files : List Text) → AreListed seen files → Decided (AreListed (seen ++ rest))
 unfolding HasKey
 listed_after seen [] files listed = inl (files, subst (λ ws. AreListed ws files) (sym (append-nil seen)) listed)

@@ -1,4 +1,4 @@
--- What the value of an option says, or that it says nothing, is decided.
+-- It is decided what the value of an option means, or that it means nothing.
 use Rattle.std.proofs.Common.{◌≡◌, ◌⊎◌, ◌∙◌, ℕ, ◌<◌, ◌≤◌, ◌==◌, Bool, true, false, not, List, [], ◌∷◌, ◌++◌, map, length, Option, Some, None, refl, sym, subst, inl, inr, ⊎_elim, arith, codes, append_assoc}
 use Rattle.std.specs.Char.{digit_value}
 use Rattle.std.specs.List.{AllByRecursion, list_all}
@@ -21,7 +21,7 @@ use Rattle.report_existence.proofs.Lists.{BeginsWith, EndsWith, begins_or_not, e
 abbrev pub Text : Type 0
 Text = List ℕ
 
--- something has this, or nothing has
+-- something has this property, or nothing has it
 abbrev pub Decided : {X : Type 0} → (X → Type 0) → Type 0
 Decided {X} Has = ((x : X) × Has x) ⊎ ((x : X) → Has x → ⊥)
 
@@ -132,7 +132,7 @@ side_decided (Some text) =
     none no_parent no_child Parent = no_parent
     none no_parent no_child Child = no_child
 
--- the text gives this side a death after so many events
+-- the text gives this side a death after this number of events
 record GivesDeath (side : Side) (text : Text) (after : ℕ) : Type 0 where
   number : Text
   text_is : text ≡ word_of side ++ (codes ":" ++ number)

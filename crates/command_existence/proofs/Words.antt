@@ -1,4 +1,4 @@
--- All words are a command or none.
+-- All words are a command, or are not.
 use Rattle.std.proofs.Common.{◌≡◌, ◌⊎◌, List, [], ◌∷◌, sym, ap, subst, inl, inr, ⊎_elim}
 use Rattle.std.specs.List.{AllByRecursion}
 use Rattle.std.specs.Str.{IsUtf8}
@@ -11,36 +11,36 @@ use Rattle.command_words.specs.Gen.{gen_word}
 use Rattle.command_words.specs.Relay.{relay_word}
 use Rattle.command_words.specs.Run.{run_word}
 use Rattle.command_words.specs.Waits.{waits_word}
-use Rattle.command_words.proofs.OneCommand.{for_compile, none_behind_audit, none_behind_feed, none_behind_frames, none_behind_gen, none_behind_relay, none_behind_run, none_behind_waits, none_for_compile}
+use Rattle.command_words.proofs.OneCommand.{for_compile, none_after_audit, none_after_feed, none_after_frames, none_after_gen, none_after_relay, none_after_run, none_after_waits, none_for_compile}
 use Rattle.report_existence.proofs.Lists.{text_or_not}
 use Rattle.command_existence.specs.Laws.{WordsAreDecided}
 use Rattle.command_existence.proofs.Commands.{audit_decided, compile_decided, feed_decided, frames_decided, gen_decided, relay_decided, run_decided, waits_decided}
 use Rattle.command_existence.proofs.Values.{Text}
 
--- the words are a command, or none
+-- the words are a command, or are not
 abbrev IsDecided : List Text → Type 0
 IsDecided words = ((command : CommandView) × Say words command) ⊎ IsNoCommand words
 
--- a command or none of one kind decides words, where these are no other command
+-- a command of one kind, or the proof that there is no such command, decides words that are no other command
 so : {None : Type 0} (words : List Text) → (None → IsNoCommand words) → ((command : CommandView) × Say words command) ⊎ None → IsDecided words
 so words none (inl c) = inl c
 so words none (inr no_command) = inr (none no_command)
 
 by_first : (word : Text) (rest : List Text) → AllByRecursion IsUtf8 (word ∷ rest) → IsDecided (word ∷ rest)
 by_first word rest texts =
-    ⊎_elim (λ (e : word ≡ frames_word). so (word ∷ rest) (none_behind_frames (word ∷ rest) rest (first e)) (at e (frames_decided rest texts.1)))
+    ⊎_elim (λ (e : word ≡ frames_word). so (word ∷ rest) (none_after_frames (word ∷ rest) rest (first e)) (at e (frames_decided rest texts.1)))
     (λ no_frames.
-    ⊎_elim (λ (e : word ≡ waits_word). so (word ∷ rest) (none_behind_waits (word ∷ rest) rest (first e)) (at e (waits_decided rest texts.1)))
+    ⊎_elim (λ (e : word ≡ waits_word). so (word ∷ rest) (none_after_waits (word ∷ rest) rest (first e)) (at e (waits_decided rest texts.1)))
     (λ no_waits.
-    ⊎_elim (λ (e : word ≡ run_word). so (word ∷ rest) (none_behind_run (word ∷ rest) rest (first e)) (at e (run_decided rest texts.1)))
+    ⊎_elim (λ (e : word ≡ run_word). so (word ∷ rest) (none_after_run (word ∷ rest) rest (first e)) (at e (run_decided rest texts.1)))
     (λ no_run.
-    ⊎_elim (λ (e : word ≡ gen_word). so (word ∷ rest) (none_behind_gen (word ∷ rest) rest (first e)) (at e (gen_decided rest texts.1)))
+    ⊎_elim (λ (e : word ≡ gen_word). so (word ∷ rest) (none_after_gen (word ∷ rest) rest (first e)) (at e (gen_decided rest texts.1)))
     (λ no_gen.
-    ⊎_elim (λ (e : word ≡ feed_word). so (word ∷ rest) (none_behind_feed (word ∷ rest) rest (first e)) (at e (feed_decided rest texts.1)))
+    ⊎_elim (λ (e : word ≡ feed_word). so (word ∷ rest) (none_after_feed (word ∷ rest) rest (first e)) (at e (feed_decided rest texts.1)))
     (λ no_feed.
-    ⊎_elim (λ (e : word ≡ audit_word). so (word ∷ rest) (none_behind_audit (word ∷ rest) rest (first e)) (at e (audit_decided rest texts.1)))
+    ⊎_elim (λ (e : word ≡ audit_word). so (word ∷ rest) (none_after_audit (word ∷ rest) rest (first e)) (at e (audit_decided rest texts.1)))
     (λ no_audit.
-    ⊎_elim (λ (e : word ≡ relay_word). so (word ∷ rest) (none_behind_relay (word ∷ rest) rest (first e)) (at e (relay_decided rest texts.1)))
+    ⊎_elim (λ (e : word ≡ relay_word). so (word ∷ rest) (none_after_relay (word ∷ rest) rest (first e)) (at e (relay_decided rest texts.1)))
     (λ no_relay.
     let chosen : IsForCompile (word ∷ rest) = for_compile word rest no_frames no_waits no_run no_gen no_feed no_audit no_relay in
     so (word ∷ rest) (none_for_compile (word ∷ rest) chosen) (compile_decided (word ∷ rest) texts chosen))

@@ -1,8 +1,8 @@
-//! The law that words are a command or none.
+//! The law that words are a command or are not.
 
 ghost use Rattle.command_existence.specs.Laws.{WordsAreDecided};
 
-/// The law of words: all words that are texts are a command, or are none.
+/// The law of words: every list of words that are texts is a command, or is not.
 pub fn words_are_decided()
     ensures { WordsAreDecided }
 {}

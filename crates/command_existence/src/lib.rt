@@ -1,4 +1,4 @@
-//! The law that words are a command or none. No function that runs.
+//! The law that words are a command or are not. There is no function that runs.
 #![tactic(auto)]
 
 mod laws;

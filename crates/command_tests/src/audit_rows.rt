@@ -1,5 +1,7 @@
-/// Calls of the command that audits a text, in the form of `call_rows`: the worked ones by their names,
-/// and others. Each has `RACE` too, behind its own files.
+//! Rows of calls of `audit`.
+
+/// Calls of the command that audits a text, in the form of `call_rows`: the worked ones by name, and
+/// others. Each also has `RACE`, after its own files.
 pub const AUDITS: &str = "audit-legal
 audit race.ids PW.ipdl t.txt
 0

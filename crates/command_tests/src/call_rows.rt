@@ -1,3 +1,5 @@
+//! Rows of calls that compile.
+
 /// A program of two messages.
 pub const HELLO: &str = "@ PHello.ipdl
 protocol PHello {
@@ -18,12 +20,12 @@ parent:
 };
 ";
 
-/// Calls. Each row: what it is about; the words; the code of the status; behind `@ ` what is written to
-/// `out`, and behind the next to `err`; and then each file behind `@ `, its name and its bytes. Bytes
-/// that are no text stand as digits behind `hex `; `usage` is the text of the usage. `====` stands
-/// between two rows.
+/// Calls. Each row has its subject; the words; the code of the status; after `@ ` what is written to
+/// `out`, and after the next `@ ` what is written to `err`; and then each file after `@ `, its name and
+/// its bytes. Bytes that are not text are digits after `hex `; `usage` is the text of the usage. `====`
+/// separates two rows.
 ///
-/// Words, of which each call has `HELLO`.
+/// Calls on words. Each call has the files of `HELLO`.
 pub const WORDS: &str = "
 PHello.ipdl
 0
@@ -74,7 +76,7 @@ gen 1001
 @ @ usage
 ";
 
-/// Sync lists, of which each call has `LISTED` too.
+/// Sync lists. Each call also has the files of `LISTED`.
 pub const LISTS: &str = "sync-list
 -s sync.ini PL.ipdl
 1
@@ -103,7 +105,7 @@ sync-list-bad-line
 x
 ";
 
-/// Files that are reached or absent.
+/// Files that are reached, or absent.
 pub const REACHES: &str = "manager-and-managed
 PMyManager.ipdl
 0
@@ -258,8 +260,8 @@ protocol PI {
 };
 ";
 
-/// Names of 1, 21 to 24 and 256 bytes: in tables, each twice, with neighbours that differ in the last byte
-/// alone, and as names of files in a report.
+/// Names of 1, 21 to 24 and 256 bytes: in tables, each twice, with neighbours that differ only in the
+/// last byte, and as names of files in a report.
 pub const NAMES: &str = "names-in-tables
 PN.ipdl
 0

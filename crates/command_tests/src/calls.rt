@@ -1,3 +1,5 @@
+//! Whole calls, and what each leaves on files and sinks in memory.
+
 use super::audit_rows::AUDITS;
 use super::call_rows::{HELLO, LISTED, LISTS, NAMES, REACHES, REPORTS, WORDS};
 use super::feed_rows::{FEEDS, IDLE};
@@ -6,8 +8,9 @@ use super::relay_rows::RELAYS;
 use super::run_rows::{RACE, RUNS};
 use super::wait_rows::WAITS;
 use file_log::RecordedFiles;
-use ipdl_base::{Failure, FileBytes, Files, MemoryFiles, MemorySink};
+use ipdl_base::{Failure, FileBytes, Files};
 use ipdl_top::{Status, ipdl};
+use memory_files::{MemoryFiles, MemorySink};
 use std::alloc::{AllocError, Global};
 use std::test::Fail;
 use world_core::OneThread;
@@ -22,10 +25,10 @@ const USAGE: &str = "usage: ipdl [-s LIST] [--path DIRS] FILES
        ipdl relay [-s LIST] [--path DIRS] [--die SIDE:K] [--limit N] SCRIPT FILE
 ";
 
-/// A file by its name.
+/// A file: its name and its bytes.
 type Source = (&'static str, &'static [u8]);
 
-/// Files by their names.
+/// Files.
 type Sources = &'static [Source];
 
 /// A call and what it leaves.
@@ -56,9 +59,9 @@ struct CountedFiles {
 
 impl Files for CountedFiles {
     ghost use Rattle.std.specs.Prelude.{Some};
-    ghost use Rattle.ipdl_base.specs.Memory as memory;
+    ghost use Rattle.memory_files.specs.Memory as memory;
 
-    ghost told = { λ f. Some (memory.file_named f.files.files) };
+    ghost known = { λ f. Some (memory.file_named f.files.files) };
 
     ghost faults = { λ f. f.files.faults };
 
@@ -68,7 +71,7 @@ impl Files for CountedFiles {
     }
 }
 
-/// Strings of the words of a text.
+/// Returns the words of a text as strings.
 pub fn strings(alloc: Global, words: &str) -> Result<Vec<String>, AllocError> {
     let mut strings = Vec::new(alloc);
     for word in words.split(' ') {
@@ -79,12 +82,12 @@ pub fn strings(alloc: Global, words: &str) -> Result<Vec<String>, AllocError> {
     Ok(strings)
 }
 
-/// A file with this name and these bytes.
+/// Returns a file with this name and these bytes.
 fn file(alloc: Global, name: &str, bytes: Vec<u8>) -> Result<(String, Vec<u8>), AllocError> {
     Ok((String::from_str(alloc, name)?, bytes))
 }
 
-/// These files, of which the read with this number, from 1, fails.
+/// Returns these files. The read with this number, counted from 1, fails.
 fn files(alloc: Global, sources: Sources, failing: u64) -> Result<MemoryFiles, AllocError> {
     let mut files = Vec::new(alloc);
     for (name, bytes) in sources {
@@ -93,12 +96,13 @@ fn files(alloc: Global, sources: Sources, failing: u64) -> Result<MemoryFiles, A
     Ok(MemoryFiles::new(files, vec![in alloc; failing]?))
 }
 
-/// A sink that takes so many bytes at once, of which the write with this number, from 1, fails.
+/// Returns a sink that takes this number of bytes at once. The write with this number, counted from 1,
+/// fails.
 pub fn sink(alloc: Global, piece: usize, failing: u64) -> Result<MemorySink, AllocError> {
     MemorySink::new(alloc, piece.max(1), 4000, vec![in alloc; failing]?)
 }
 
-/// What a call with these words leaves on these sinks.
+/// Returns what a call with these words leaves on these sinks.
 pub fn call_on(
     alloc: Global,
     words: &str,
@@ -130,8 +134,8 @@ pub fn call_on(
     })
 }
 
-/// What a call with these words leaves, where `out` takes so many bytes at once, and the write to it
-/// with this number, from 1, fails.
+/// Returns what a call with these words leaves, where `out` takes `piece` bytes at once, and the write
+/// to it with the number `failing`, counted from 1, fails.
 fn call(
     alloc: Global,
     words: &str,
@@ -144,7 +148,7 @@ fn call(
     call_on(alloc, words, files, out, err)
 }
 
-/// Notes what a call leaves, where it is not this.
+/// Notes what a call leaves if it is not this.
 pub fn note(
     words: &str,
     left: &Left,
@@ -161,12 +165,12 @@ pub fn note(
     writeln!(wrong, "{words}: {} {out}{err}", left.status.code())
 }
 
-/// The byte of two digits.
+/// Returns the byte that two hexadecimal digits spell.
 fn byte_of(digits: &[u8]) -> Result<u8, Fail> {
     Ok(u8::from_str_radix(str::from_utf8(digits)?, 16)?)
 }
 
-/// The bytes of a text, or of digits behind `hex `.
+/// Returns the bytes of a text, or of digits after `hex `.
 pub fn bytes_of(alloc: Global, text: &str) -> Result<Vec<u8>, Fail> {
     let Some(digits) = text.strip_prefix("hex ") else {
         return Ok(Vec::from_slice(alloc, text.as_bytes())?);
@@ -178,7 +182,7 @@ pub fn bytes_of(alloc: Global, text: &str) -> Result<Vec<u8>, Fail> {
     Ok(bytes)
 }
 
-/// Appends the files of pieces behind `@ `, each its name and its bytes.
+/// Appends the files in the pieces between `@ `, each with its name and its bytes.
 fn push_files(alloc: Global, pieces: &str, files: &mut Vec<(String, Vec<u8>)>) -> Result<(), Fail> {
     for piece in pieces.split("@ ") {
         if let Some((name, text)) = piece.split_once("\n") {
@@ -188,7 +192,7 @@ fn push_files(alloc: Global, pieces: &str, files: &mut Vec<(String, Vec<u8>)>) -
     Ok(())
 }
 
-/// The files of pieces, and these behind them.
+/// Returns the files of pieces, followed by the shared ones.
 pub fn files_of(alloc: Global, pieces: &str, shared: &str) -> Result<MemoryFiles, Fail> {
     let mut files = Vec::new(alloc);
     push_files(alloc, pieces, &mut files)?;
@@ -196,17 +200,22 @@ pub fn files_of(alloc: Global, pieces: &str, shared: &str) -> Result<MemoryFiles
     Ok(MemoryFiles::new(files, Vec::new(alloc)))
 }
 
-/// A row of calls, taken apart.
+/// The parts of a row of calls.
 #[derive(Clone, Copy)]
 pub struct CallRow<'a> {
+    /// The words of the call.
     pub words: &'a str,
+    /// The code of its status, as text.
     pub code: &'a str,
+    /// What it writes to `out`.
     pub out: &'a str,
+    /// What it writes to `err`.
     pub err: &'a str,
+    /// Its files.
     pub pieces: &'a str,
 }
 
-/// The parts of a row of calls.
+/// Returns the parts of a row of calls.
 pub fn call_row(row: &str) -> Result<CallRow<'_>, Fail> {
     let (head, rest) = row
         .split_once("\n@ ")
@@ -225,7 +234,7 @@ pub fn call_row(row: &str) -> Result<CallRow<'_>, Fail> {
     })
 }
 
-/// Notes a row of calls that leaves something else.
+/// Notes a row of calls if its call leaves something else.
 fn check(alloc: Global, row: &str, shared: &str, wrong: &mut String) -> Result<(), Fail> {
     let row = call_row(row)?;
     let files = files_of(alloc, row.pieces, shared)?;
@@ -242,7 +251,7 @@ fn check(alloc: Global, row: &str, shared: &str, wrong: &mut String) -> Result<(
     )?)
 }
 
-/// Which calls of a table leave something else, where each has these files too.
+/// Returns which calls of a table leave something else. Each call also has the shared files.
 fn wrong_calls(alloc: Global, table: &str, shared: &str) -> Result<String, Fail> {
     let mut wrong = String::new(alloc);
     for row in table.split("====\n") {
@@ -268,7 +277,7 @@ fn calls(rt: HostRuntime) -> Result<(), Fail> {
     Ok(())
 }
 
-/// A program of two files and a list that they break no rule with.
+/// A program of two files, and a list with which they break no rule.
 const TWO: Sources = &[
     (
         "PA.ipdl",
@@ -284,7 +293,7 @@ protocol 1 PB async not
 message 65536 child async not plain normal Tell()
 ";
 
-/// As `note`, of a row.
+/// Does the same as `note`, for a row.
 fn note_row(row: &Row, left: &Left, wrong: &mut String) -> Result<(), AllocError> {
     note(
         row.words,
@@ -299,7 +308,7 @@ fn note_row(row: &Row, left: &Left, wrong: &mut String) -> Result<(), AllocError
 /// Words for the program of two files and its list.
 const TWO_WORDS: &str = "-s list.ini PA.ipdl";
 
-/// A call on these.
+/// A call with these words and files.
 const ON_TWO: Row = Row {
     words: TWO_WORDS,
     files: TWO,
@@ -308,7 +317,7 @@ const ON_TWO: Row = Row {
     err: "",
 };
 
-/// The same call, where a read fails.
+/// The same call, if a read fails.
 const TWO_UNREAD: Row = Row {
     words: TWO_WORDS,
     files: TWO,
@@ -317,7 +326,7 @@ const TWO_UNREAD: Row = Row {
     err: "",
 };
 
-/// The same call, where the second write fails.
+/// The same call, if the second write fails.
 const TWO_UNWRITTEN: Row = Row {
     words: TWO_WORDS,
     files: TWO,
@@ -336,10 +345,10 @@ const BROKEN: Sources = &[
     ("f.bin", b""),
 ];
 
-/// Words for these.
+/// Words for these files.
 const BROKEN_WORDS: &str = "frames -s list.ini PF.ipdl f.bin";
 
-/// A call on these.
+/// A call with these words and files.
 const ON_BROKEN: Row = Row {
     words: BROKEN_WORDS,
     files: BROKEN,
@@ -348,7 +357,7 @@ const ON_BROKEN: Row = Row {
     err: "PF.ipdl:3:14: B1 unknown type\n",
 };
 
-/// The same call, where a read fails.
+/// The same call, if a read fails.
 const BROKEN_UNREAD: Row = Row {
     words: BROKEN_WORDS,
     files: BROKEN,
@@ -357,8 +366,8 @@ const BROKEN_UNREAD: Row = Row {
     err: "",
 };
 
-/// Calls with the reads that fail, one after the other; number 0 is none. The last one of frames counts also where the
-/// program breaks a rule.
+/// Calls with the number of the read that fails; 0 means that no read fails. A failed read of the
+/// frames counts even if the program breaks a rule.
 const READS: &[(u64, Row)] = &[
     (0, ON_TWO),
     (1, TWO_UNREAD),
@@ -370,7 +379,7 @@ const READS: &[(u64, Row)] = &[
     (4, ON_BROKEN),
 ];
 
-/// Which of these leave something else.
+/// Returns which of these leave something else.
 fn wrong_reads(alloc: Global) -> Result<String, AllocError> {
     let mut wrong = String::new(alloc);
     for (failing, row) in READS {
@@ -381,10 +390,10 @@ fn wrong_reads(alloc: Global) -> Result<String, AllocError> {
     Ok(wrong)
 }
 
-/// Calls with the writes that fail, where `out` takes five bytes at once.
+/// Calls with the number of the write that fails, where `out` takes five bytes at once.
 const WRITES: &[(u64, Row)] = &[(0, ON_TWO), (2, TWO_UNWRITTEN)];
 
-/// Which of these leave something else.
+/// Returns which of these leave something else.
 fn wrong_writes(alloc: Global) -> Result<String, AllocError> {
     let mut wrong = String::new(alloc);
     for (failing, row) in WRITES {
@@ -394,8 +403,9 @@ fn wrong_writes(alloc: Global) -> Result<String, AllocError> {
     Ok(wrong)
 }
 
-/// How much the run of two calls at once prints, where the write with this number fails and `out` takes
-/// fifty bytes at once: a front of its text, with status 4. Nothing where it is anything else.
+/// Returns how much the run of two calls at the same time prints if the write with this number fails
+/// and `out` takes fifty bytes at once: a prefix of its text, with status 4. Returns `None` if the call
+/// leaves anything else.
 fn front_written(alloc: Global, failing: u64) -> Result<Option<usize>, Fail> {
     let files = files_of(alloc, RACE, "")?;
     let left = call(
@@ -414,8 +424,9 @@ fn front_written(alloc: Global, failing: u64) -> Result<Option<usize>, Fail> {
     Ok(Some(written.len()))
 }
 
-/// How many bytes were written before each of the writes of that run, which are eight, where it fails.
-fn fronts(alloc: Global) -> Result<String, Fail> {
+/// Returns how many bytes were written before each of the eight writes of that run, if that write
+/// fails.
+fn prefixes(alloc: Global) -> Result<String, Fail> {
     let mut shown = String::new(alloc);
     for failing in 1..9 {
         match front_written(alloc, failing)? {
@@ -426,8 +437,8 @@ fn fronts(alloc: Global) -> Result<String, Fail> {
     Ok(shown)
 }
 
-/// The statuses of a call with these words and files, where each of its first reads fails, up to so many, whether it wrote
-/// anything, and how many files it read.
+/// Returns the results of a call with these words and files if one of its first `reads` reads fails,
+/// for each of them: its status, whether it wrote anything, and how many files it read.
 fn unread(alloc: Global, words: &str, shared: &str, reads: u64) -> Result<String, Fail> {
     let mut shown = String::new(alloc);
     for failing in 1..=reads {
@@ -441,20 +452,20 @@ fn unread(alloc: Global, words: &str, shared: &str, reads: u64) -> Result<String
     Ok(shown)
 }
 
-/// Those of the run of two calls at once.
+/// Returns these results for the run of two calls at the same time.
 fn unread_runs(alloc: Global) -> Result<String, Fail> {
     unread(alloc, "run --schedule PCPC race.ids PW.ipdl", RACE, 3)
 }
 
-/// Those of a feed: of the program, of the script and of the frames. The last one of these counts also where the script is
-/// bad.
+/// Returns these results for a feed: reads of the program, of the script and of the frames. A failed
+/// read of the frames counts even if the script is bad.
 fn unread_feeds(alloc: Global) -> Result<String, Fail> {
     let words = "feed --side parent PF.ipdl PF.ipdl idle.ids";
     unread(alloc, words, IDLE, 4)
 }
 
-/// Those of an audit: of the program, of the script and of the text. The last one of these counts also where the script is
-/// bad.
+/// Returns these results for an audit: reads of the program, of the script and of the text. A failed
+/// read of the text counts even if the script is bad.
 fn unread_audits(alloc: Global) -> Result<String, Fail> {
     unread(alloc, "audit PF.ipdl PF.ipdl idle.ids", IDLE, 4)
 }
@@ -462,7 +473,7 @@ fn unread_audits(alloc: Global) -> Result<String, Fail> {
 #[test]
 fn failing_runs(rt: HostRuntime) -> Result<(), Fail> {
     let alloc = rt.alloc();
-    assert_eq!(rt; fronts(alloc)?.as_str(), "0 50 100 150 200 250 300 350 ");
+    assert_eq!(rt; prefixes(alloc)?.as_str(), "0 50 100 150 200 250 300 350 ");
     assert_eq!(rt;
         unread_runs(alloc)?.as_str(),
         "3 false 1, 3 false 2, 0 true 2, "
@@ -508,14 +519,15 @@ const LARGER_TEXT: Row = Row {
     err: "t.txt:0: larger\n",
 };
 
-/// Calls, and the names of files that have one byte more than are read, with how many that are.
+/// The names of files with one byte more than is read, the number of their bytes, and calls that read
+/// them.
 const LARGER: &[(&str, usize, Row)] = &[
     ("f.bin", 1_048_577, LARGER_FRAMES),
     ("list.ini", 1_048_577, LARGER_LIST),
     ("t.txt", 16_777_217, LARGER_TEXT),
 ];
 
-/// The program, and a file with this name and so many bytes.
+/// Returns the files of the program, and a file with this name and size.
 fn with_larger(alloc: Global, name: &str, size: usize) -> Result<MemoryFiles, AllocError> {
     let mut files = Vec::new(alloc);
     for (name, bytes) in EMPTY {
@@ -525,7 +537,7 @@ fn with_larger(alloc: Global, name: &str, size: usize) -> Result<MemoryFiles, Al
     Ok(MemoryFiles::new(files, Vec::new(alloc)))
 }
 
-/// Which of these leave something else.
+/// Returns which of these leave something else.
 fn wrong_larger(alloc: Global) -> Result<String, AllocError> {
     let mut wrong = String::new(alloc);
     for (name, size, row) in LARGER {

@@ -1,5 +1,7 @@
-/// Calls of the command that runs one end on a file of bytes, in the form of `call_rows`: the worked ones by
-/// their names, and others. Each has `IDLE` too, behind its own.
+//! Rows of calls of `feed`.
+
+/// Calls of the command that runs one end on a file of bytes, in the form of `call_rows`: the worked
+/// ones by name, and others. Each also has `IDLE`, after its own files.
 pub const FEEDS: &str = "feed-settles
 feed --side parent get.ids PQ.ipdl f.bin
 0

@@ -1,3 +1,5 @@
+//! Rows of calls of `frames`.
+
 /// A program of one message.
 pub const FLAG: &str = "@ PF.ipdl
 protocol PF {
@@ -6,8 +8,8 @@ parent:
 };
 ";
 
-/// Files of frames, in the form of `call_rows`: the worked ones by their names, and others. Each has `FLAG` too,
-/// behind its own.
+/// Calls on files of frames, in the form of `call_rows`: the worked ones by name, and others. Each also
+/// has `FLAG`, after its own files.
 pub const FRAMES: &str = "frames-absent
 frames PF.ipdl f.bin
 8

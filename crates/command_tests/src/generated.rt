@@ -1,18 +1,21 @@
+//! Generated cases, and their summaries.
+
 ghost use Rattle.std.specs.Prelude.{◌≤◌};
 
 use super::calls::strings;
 use file_log::RecordedFiles;
 use generated_case::generate;
-use ipdl_base::{MemoryFiles, MemorySink};
 use ipdl_top::{Status, ipdl};
+use memory_files::{MemoryFiles, MemorySink};
 use std::alloc::{AllocError, Global};
 use std::test::Fail;
 use world_core::OneThread;
 
-/// The most bytes of a transcript.
+/// The greatest number of bytes in a transcript.
 const ROOM: usize = 4_000_000;
 
-/// What a call with these words prints, where it is done and says nothing else.
+/// Returns what a call with these words prints. Fails if its status is not `Done`, or if it writes to
+/// `err`.
 fn printed(alloc: Global, words: &str, files: MemoryFiles) -> Result<String, Fail> {
     let words = strings(alloc, words)?;
     let mut files = RecordedFiles::new(files);
@@ -35,7 +38,7 @@ fn printed(alloc: Global, words: &str, files: MemoryFiles) -> Result<String, Fai
     Ok(String::from_str(alloc, str::from_utf8(out.written())?)?)
 }
 
-/// A file with this name and this text.
+/// Returns a file with this name and this text.
 fn file(alloc: Global, name: &str, text: &str) -> Result<(String, Vec<u8>), AllocError> {
     Ok((
         String::from_str(alloc, name)?,
@@ -43,7 +46,7 @@ fn file(alloc: Global, name: &str, text: &str) -> Result<(String, Vec<u8>), Allo
     ))
 }
 
-/// The files and the script of a case.
+/// Returns the files and the script of a case.
 fn files_of(alloc: Global, rounds: u32, actors: u32) -> Result<MemoryFiles, AllocError>
     requires some_rounds { 1 ≤ rounds }
     requires rounds { rounds ≤ 1000 }
@@ -58,25 +61,25 @@ fn files_of(alloc: Global, rounds: u32, actors: u32) -> Result<MemoryFiles, Allo
     Ok(MemoryFiles::new(files, Vec::new(alloc)))
 }
 
-/// No files: each read of one fails.
+/// Returns no files: each read of a file fails.
 fn no_files(alloc: Global) -> Result<MemoryFiles, AllocError> {
     Ok(MemoryFiles::new(Vec::new(alloc), vec![in alloc; 1]?))
 }
 
-/// How many lines of a text have a part, and not another.
+/// Returns how many lines of a text contain one part, but not another.
 fn count(text: &str, part: &str, other: &str) -> usize {
     text.split('\n')
         .filter(|line| line.contains(part) && !line.contains(other))
         .count()
 }
 
-/// The last line of a text.
+/// Returns the last line of a text.
 fn last_line(text: &str) -> &str {
     text.trim_end().split('\n').last().unwrap_or("")
 }
 
-/// The summary of a transcript, by its text alone. Events begin with the word of their side, and effects
-/// with two blanks.
+/// Returns the summary of a transcript, from its text only. Events begin with the word of their side,
+/// and effects with two blanks.
 fn summary_of(
     alloc: Global,
     transcript: &str,
@@ -97,7 +100,8 @@ fn summary_of(
     )
 }
 
-/// What `gen` prints of a case, where that is the summary of what `run` prints of its files, and else why not.
+/// Returns what `gen` prints of a case. Fails if that is not the summary of what `run` prints of its
+/// files.
 fn summary(alloc: Global, rounds: u32, actors: u32) -> Result<String, Fail>
     requires some_rounds { 1 ≤ rounds }
     requires rounds { rounds ≤ 1000 }
@@ -142,7 +146,7 @@ fn summaries(rt: HostRuntime) -> Result<(), Fail> {
     Ok(())
 }
 
-/// What `gen` prints of the largest case.
+/// Returns what `gen` prints of the largest case.
 fn largest_summary(alloc: Global) -> Result<String, Fail> {
     printed(alloc, "gen --actors 100 1000", no_files(alloc)?)
 }

@@ -1,5 +1,4 @@
-//! Tests of the whole program: what words are, and what a call leaves behind on files and sinks in
-//! memory.
+//! Tests of the whole program: what words mean, and what a call leaves on files and sinks in memory.
 #![tactic(auto)]
 
 #[cfg(test)]

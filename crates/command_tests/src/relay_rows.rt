@@ -1,5 +1,7 @@
+//! Rows of calls of `relay`.
+
 /// Calls of the command that runs a script over two queues, in the form of `call_rows`, by turns on one
-/// thread: the worked one by its name, and others. Each has `RACE` too, behind its own files.
+/// thread: the worked one by name, and others. Each also has `RACE`, after its own files.
 pub const RELAYS: &str = "relay-two-tells
 relay hello.ids PW.ipdl
 0

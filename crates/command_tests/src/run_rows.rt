@@ -1,3 +1,5 @@
+//! Rows of calls of `run`.
+
 /// Calls of the command that runs a script, in the form of `call_rows`.
 pub const RUNS: &str = "both-call-at-once
 run --schedule PCPC race.ids PW.ipdl
@@ -115,7 +117,7 @@ parent:
 };
 ";
 
-/// The files that each of these calls has.
+/// The files that each of these calls also has.
 pub const RACE: &str = "@ race.ids
 parent main
 send top PW.CallC()

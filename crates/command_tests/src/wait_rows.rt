@@ -1,5 +1,7 @@
-/// Calls of the command that lists what may interrupt a wait, in the form of `call_rows`: the worked ones by their
-/// names, and others.
+//! Rows of calls of `waits`.
+
+/// Calls of the command that lists what may interrupt a wait, in the form of `call_rows`: the worked
+/// ones by name, and others.
 pub const WAITS: &str = "waits-managed
 waits PM.ipdl
 0

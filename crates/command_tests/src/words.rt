@@ -1,17 +1,18 @@
-use command_words::{Command, WordsFault, read_words};
+//! What lists of words mean.
+
+use command_words::{Command, Sources, WordsFault, read_words};
 use ipdl_base::{Side, key_of};
 use schedules::{Stop, Turn};
 use std::alloc::{AllocError, Global};
 use std::test::Fail;
 
-/// Lists of words, and behind `=>` what each is: the sync list behind `=`, or `none`; the folders,
-/// with `:` between them; and the files. Behind these stands `<-` and the file of frames where the
-/// command is the one that prints frames, or `<2` where it converts them. Behind `!` stand the script,
-/// the file, the word of turns behind `=`, the limit and the death of a run. Behind `&` stand the script,
-/// the file, the file of frames, the side and the limit of one end on a file of bytes. Behind `^` stand the
-/// script, the file, the transcript and the limit of an audit; behind `~` the
-/// script, the file, the limit and the death of a relay. `%` stands before
-/// the rounds and the actors of a generated case. Nothing stands where the words are no command. An
+/// Lists of words, and after `=>` what each means: the sync list after `=`, or `none`; the folders,
+/// with `:` between them; and the files. For the command that prints frames, `<-` and the file of
+/// frames follow, or `<2` if it converts them. After `!` are the script, the file, the word of turns
+/// after `=`, the limit and the death of a run. After `&` are the script, the file, the file of frames,
+/// the side and the limit of a feed. After `^` are the script, the file, the transcript and the limit
+/// of an audit; after `~` the script, the file, the limit and the death of a relay. `%` precedes the
+/// rounds and the actors of a generated case. The meaning is empty if the words are not a command. An
 /// empty word is written as two single quotes.
 const ROWS: &str = "x.ipdl => none . x.ipdl
 x.ipdlh => none . x.ipdlh
@@ -300,7 +301,7 @@ a/PX.ipdl a/PX.ipdl => none . a/PX.ipdl
 --path=-a x.ipdl => none -a x.ipdl
 ";
 
-/// Appends the words, with a mark between each two.
+/// Appends the words, separated by a mark.
 fn push_joined(line: &mut String, words: &[String], mark: &str) -> Result<(), AllocError> {
     for (i, word) in words.iter().enumerate() {
         if i > 0 {
@@ -325,7 +326,7 @@ fn push_shared(
     line.push_str(" ")
 }
 
-/// Appends the letters of turns behind `=`, or `-` where none are given.
+/// Appends the letters of turns after `=`, or `-` if no turns are given.
 fn push_schedule(line: &mut String, schedule: &Option<Vec<Turn>>) -> Result<(), AllocError> {
     let Some(turns) = schedule else {
         return line.push_str("-");
@@ -337,7 +338,7 @@ fn push_schedule(line: &mut String, schedule: &Option<Vec<Turn>>) -> Result<(), 
     Ok(())
 }
 
-/// The letter of a turn.
+/// Returns the letter of a turn.
 fn letter_of(turn: &Turn) -> &'static str {
     match (turn.side, turn.only_deliver) {
         (Side::Parent, false) => "P",
@@ -347,7 +348,7 @@ fn letter_of(turn: &Turn) -> &'static str {
     }
 }
 
-/// Appends the death of an end, or `-` where none is given.
+/// Appends the death of an end, or `-` if no death is given.
 fn push_death(line: &mut String, death: &Option<Stop>) -> Result<(), AllocError> {
     match death {
         None => line.push_str("-"),
@@ -366,7 +367,7 @@ fn push_death(line: &mut String, death: &Option<Stop>) -> Result<(), AllocError>
     }
 }
 
-/// The word of a side.
+/// Returns the word of a side.
 fn side_word(side: Side) -> &'static str {
     match side {
         Side::Parent => "parent",
@@ -374,84 +375,70 @@ fn side_word(side: Side) -> &'static str {
     }
 }
 
-/// Appends what a command is, in the form of the rows.
+/// Appends the sync list and the folders of a command, in the form of the rows.
+fn push_sources(line: &mut String, sources: &Sources) -> Result<(), AllocError> {
+    push_shared(line, &sources.list, sources.path.as_slice())
+}
+
+/// Appends a command, in the form of the rows.
 fn push_command(line: &mut String, command: &Command) -> Result<(), AllocError> {
     match command {
         Command::Compile { list, path, files } => {
             push_shared(line, list, path.as_slice())?;
             push_joined(line, files.as_slice(), " ")
         }
-        Command::Frames {
-            list,
-            path,
-            file,
-            frames,
-            convert,
-        } => {
-            push_shared(line, list, path.as_slice())?;
-            let mark = if *convert { "<2" } else { "<-" };
+        Command::Frames(sources, options) => {
+            push_sources(line, sources)?;
+            let file = sources.file.as_str();
+            let mark = if options.convert { "<2" } else { "<-" };
+            let frames = options.frames.as_str();
             write!(line, "{file} {mark} {frames}")
         }
-        Command::Waits { list, path, file } => {
-            push_shared(line, list, path.as_slice())?;
+        Command::Waits(sources) => {
+            push_sources(line, sources)?;
+            let file = sources.file.as_str();
             write!(line, "? {file}")
         }
-        Command::Run {
-            list,
-            path,
-            schedule,
-            limit,
-            death,
-            script,
-            file,
-        } => {
-            push_shared(line, list, path.as_slice())?;
+        Command::Run(sources, options) => {
+            push_sources(line, sources)?;
+            let script = options.script.as_str();
+            let file = sources.file.as_str();
+            let limit = options.limit;
             write!(line, "! {script} {file} ")?;
-            push_schedule(line, schedule)?;
+            push_schedule(line, &options.schedule)?;
             write!(line, " {limit} ")?;
-            push_death(line, death)
+            push_death(line, &options.death)
         }
         Command::Gen { rounds, actors } => write!(line, "% {rounds} {actors}"),
-        Command::Feed {
-            list,
-            path,
-            limit,
-            side,
-            script,
-            file,
-            frames,
-        } => {
-            push_shared(line, list, path.as_slice())?;
-            let word = side_word(*side);
+        Command::Feed(sources, options) => {
+            push_sources(line, sources)?;
+            let script = options.script.as_str();
+            let file = sources.file.as_str();
+            let frames = options.frames.as_str();
+            let word = side_word(options.side);
+            let limit = options.limit;
             write!(line, "& {script} {file} {frames} {word} {limit}")
         }
-        Command::Audit {
-            list,
-            path,
-            limit,
-            script,
-            file,
-            transcript,
-        } => {
-            push_shared(line, list, path.as_slice())?;
+        Command::Audit(sources, options) => {
+            push_sources(line, sources)?;
+            let script = options.script.as_str();
+            let file = sources.file.as_str();
+            let transcript = options.transcript.as_str();
+            let limit = options.limit;
             write!(line, "^ {script} {file} {transcript} {limit}")
         }
-        Command::Relay {
-            list,
-            path,
-            limit,
-            death,
-            script,
-            file,
-        } => {
-            push_shared(line, list, path.as_slice())?;
+        Command::Relay(sources, options) => {
+            push_sources(line, sources)?;
+            let script = options.script.as_str();
+            let file = sources.file.as_str();
+            let limit = options.limit;
             write!(line, "~ {script} {file} {limit} ")?;
-            push_death(line, death)
+            push_death(line, &options.death)
         }
     }
 }
 
-/// What the words are, in the form of the rows.
+/// Returns what the words mean, in the form of the rows.
 fn shown(alloc: Global, words: &[String]) -> Result<String, WordsFault> {
     let mut line = String::new(alloc);
     match read_words(alloc, words) {
@@ -462,7 +449,7 @@ fn shown(alloc: Global, words: &[String]) -> Result<String, WordsFault> {
     Ok(line)
 }
 
-/// The words of a row.
+/// Returns the words of a row.
 fn words_of(alloc: Global, row: &str) -> Result<Vec<String>, AllocError> {
     let mut words = Vec::new(alloc);
     for word in row.split(' ') {
@@ -475,7 +462,7 @@ fn words_of(alloc: Global, row: &str) -> Result<Vec<String>, AllocError> {
     Ok(words)
 }
 
-/// Notes a row whose words are something else.
+/// Notes a row whose words mean something else.
 fn check(alloc: Global, row: &str, wrong: &mut String) -> Result<(), Fail> {
     let (words, wanted) = row.split_once("=>").ok_or("a row")?;
     let words = words_of(alloc, words)?;
@@ -486,7 +473,7 @@ fn check(alloc: Global, row: &str, wrong: &mut String) -> Result<(), Fail> {
     Ok(())
 }
 
-/// The rows whose words are something else, and how many rows there are.
+/// Returns the rows whose words mean something else, and how many rows there are.
 fn checked(alloc: Global) -> Result<String, Fail> {
     let mut shown = String::new(alloc);
     let mut count = 0u32;
@@ -504,7 +491,7 @@ fn lists_of_words(rt: HostRuntime) -> Result<(), Fail> {
     Ok(())
 }
 
-/// This many different files.
+/// Returns this many different files.
 fn many(alloc: Global, count: usize) -> Result<Vec<String>, AllocError> {
     let mut words = Vec::new(alloc);
     for i in 0..count {
@@ -513,7 +500,7 @@ fn many(alloc: Global, count: usize) -> Result<Vec<String>, AllocError> {
     Ok(words)
 }
 
-/// A file, and this many folders.
+/// Returns words with a file and this many folders.
 fn far(alloc: Global, count: usize) -> Result<Vec<String>, AllocError> {
     let mut words = words_of(alloc, "x.ipdl --path")?;
     let mut dirs = String::new(alloc);
@@ -527,7 +514,7 @@ fn far(alloc: Global, count: usize) -> Result<Vec<String>, AllocError> {
     Ok(words)
 }
 
-/// How many files the command of the words names; nothing where they are no command, and for frames.
+/// Returns how many files the words name, if they are a command that compiles, or else `None`.
 fn file_count(alloc: Global, words: &[String]) -> Option<usize> {
     match read_words(alloc, words) {
         Ok(Command::Compile { files, .. }) => Some(files.len()),
@@ -535,19 +522,19 @@ fn file_count(alloc: Global, words: &[String]) -> Option<usize> {
     }
 }
 
-/// How many files a command names that names so many.
+/// Returns how many files a command with this many names has.
 fn count_of_files(alloc: Global, count: usize) -> Result<Option<usize>, AllocError> {
     Ok(file_count(alloc, many(alloc, count)?.as_slice()))
 }
 
-/// The same, where it names one of them again.
+/// Returns the same if one of them is named twice.
 fn count_with_repeated(alloc: Global, count: usize) -> Result<Option<usize>, AllocError> {
     let mut words = many(alloc, count)?;
     words.push(String::from_str(alloc, "d/P7.ipdl")?)?;
     Ok(file_count(alloc, words.as_slice()))
 }
 
-/// How many files a command with so many folders names.
+/// Returns how many files a command with this many folders names.
 fn count_with_folders(alloc: Global, count: usize) -> Result<Option<usize>, AllocError> {
     Ok(file_count(alloc, far(alloc, count)?.as_slice()))
 }

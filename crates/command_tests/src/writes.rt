@@ -1,9 +1,9 @@
-//! Calls on sinks that take few bytes at once, of which each write fails in its turn.
+//! Calls on sinks that take few bytes at once. Each write fails in turn.
 
 use super::call_rows::{HELLO, REPORTS, WORDS};
 use super::calls::{CallRow, Left, bytes_of, call_on, call_row, files_of, note, sink};
 use super::frame_rows::{FLAG, FRAMES};
-use ipdl_base::MemoryFiles;
+use memory_files::MemoryFiles;
 use std::alloc::{AllocError, Global};
 use std::test::Fail;
 
@@ -15,14 +15,14 @@ struct Writing<'a> {
     piece: usize,
 }
 
-/// The numbers of the writes that fail, from 1; 0 is none.
+/// The numbers of the writes that fail, counted from 1; 0 means that no write fails.
 #[derive(Clone, Copy)]
 struct Failing {
     out: u64,
     err: u64,
 }
 
-/// What is written.
+/// What a call writes, and its code.
 #[derive(Clone, Copy)]
 struct Written<'a> {
     code: u8,
@@ -30,7 +30,7 @@ struct Written<'a> {
     err: &'a [u8],
 }
 
-/// How many writes a text takes.
+/// Returns how many writes a text needs.
 fn writes_of(text: &[u8], piece: usize) -> u64 {
     let mut writes = 0u64;
     for _ in text.chunks(piece.max(1)) {
@@ -39,13 +39,13 @@ fn writes_of(text: &[u8], piece: usize) -> u64 {
     writes
 }
 
-/// What was written of a text before the write with this number.
+/// Returns what was written of a text before the write with this number.
 fn front(text: &[u8], piece: usize, failing: u64) -> &[u8] {
     let before = usize::try_from(failing).unwrap_or(0).saturating_sub(1);
     text.get(..before.saturating_mul(piece)).unwrap_or(text)
 }
 
-/// What the call leaves on these files.
+/// Returns what the call leaves on these files.
 fn left_by(
     alloc: Global,
     writing: Writing,
@@ -57,7 +57,7 @@ fn left_by(
     call_on(alloc, writing.row.words, files, out, err)
 }
 
-/// Notes what the call leaves, where it is not this.
+/// Notes what the call leaves if it is not this.
 fn check(
     alloc: Global,
     writing: Writing,
@@ -71,8 +71,8 @@ fn check(
     Ok(note(writing.row.words, &left, code, out, err, wrong)?)
 }
 
-/// The same where no write fails, and where each of `out` does, with nothing written to `err`, and each
-/// of `err`, with all of `out` written.
+/// Does the same if no write fails; if each write to `out` fails in turn, with nothing written to
+/// `err`; and if each write to `err` fails in turn, with all of `out` written.
 fn check_writes(
     alloc: Global,
     writing: Writing,
@@ -116,7 +116,7 @@ fn check_writes(
     Ok(())
 }
 
-/// The row of a table that begins so.
+/// Returns the row of a table that begins with `start`.
 fn row_of<'a>(table: &'a str, start: &str) -> Result<CallRow<'a>, Fail> {
     for row in table.split("====\n") {
         if row.starts_with(start) {
@@ -126,7 +126,7 @@ fn row_of<'a>(table: &'a str, start: &str) -> Result<CallRow<'a>, Fail> {
     Err("no such row".into())
 }
 
-/// Notes what else a row leaves than it says, with pieces of one byte and of three.
+/// Notes a row that does not leave what it states, with pieces of one byte and of three.
 fn check_row(alloc: Global, row: CallRow, shared: &str, wrong: &mut String) -> Result<(), Fail> {
     let out = bytes_of(alloc, row.out)?;
     let whole = Written {
@@ -140,8 +140,8 @@ fn check_row(alloc: Global, row: CallRow, shared: &str, wrong: &mut String) -> R
     Ok(())
 }
 
-/// What else is left than is wanted of a report, of words that are no command, and of frames with a
-/// fault behind them.
+/// Returns what is left that is not expected: for a report, for words that are not a command, and for
+/// frames followed by a fault.
 fn wrong_writes(alloc: Global) -> Result<String, Fail> {
     let mut wrong = String::new(alloc);
     let report = row_of(REPORTS, "repeated-and-unknown\n")?;

@@ -25,7 +25,7 @@ list_letter l e = let is : 115 ≡ l = same_Some 115 l e in (omega arith, λ f. 
 path_letter : (l : ℕ) → None ≡ Some l → (l < 128) × (l ≢ 45) × (by_letter (limit_option ∷ []) l ≡ None)
 path_letter l e = absurd (some_none l (sym e))
 
--- the options can be told apart
+-- the options can be distinguished
 pub audit_table : IsTable audit_options
 audit_table = (λ e. cc, refl, refl, refl, list_letter, (λ e. cc, refl, refl, refl, path_letter, (λ e. cc, refl, refl, refl, no_letter, tt)))
 
@@ -44,7 +44,7 @@ audit_found words found list path limit script file transcript is list_is path_i
   operands = subst (λ (ws : List Text). AreScriptOperands ws script file transcript) (ap (λ (o : Option (List Text)). unwrap_or o []) is.others ∙ some_list (own_words is.said)) operands;
 }
 
--- a value of an option or operands that are none make the words none
+-- without the value of an option, or without operands, the words are not the command
 pub no_path_found : (words : List Text) (found : ArgMatches) → IsFound audit_options words found → ((path : List Text) → ¬ IsPath (first_of (codes "path") (rows_of (found_of found))) path) → IsNoAudit (audit_word ∷ words)
 no_path_found words found is none list path limit script file transcript command =
     none path (subst (λ (v : Option Text). IsPath v path) (found_value audit_options words found command.1.said audit_table is command.1.reads command.1.once (codes "path") path_ne) command.1.path_is)

@@ -50,7 +50,7 @@ no_letter l e = absurd (some_none l (sym e))
 list_letter : (l : ℕ) → Some 115 ≡ Some l → (l < 128) × (l ≢ 45) × (by_letter (path_option ∷ []) l ≡ None)
 list_letter l e = let is : 115 ≡ l = same_Some 115 l e in (omega arith, λ f. absurd (omega arith), refl)
 
--- the options can be told apart
+-- the options can be distinguished
 pub table : IsTable compile_options
 table = (λ e. cc, refl, refl, refl, list_letter, (λ e. cc, refl, refl, refl, no_letter, tt))
 
@@ -74,7 +74,7 @@ command_found words found list path files is chosen list_is path_is files_are = 
   files_are = subst (λ (ws : List Text). AreFiles ws files) (ap (λ (o : Option (List Text)). unwrap_or o []) is.others ∙ some_list (own_words is.said)) files_are;
 }
 
--- a path that is none makes the words none, and so do files that are none
+-- without a path or without files the words are not the command
 pub no_path_found : (words : List Text) (found : ArgMatches) → IsFound compile_options words found → ((path : List Text) → ¬ IsPath (first_of (codes "path") (rows_of (found_of found))) path) → IsNoCompile words
 no_path_found words found is none list path files command =
     none path (subst (λ (v : Option Text). IsPath v path) (found_value compile_options words found command.said table is command.reads command.once (codes "path") path_ne) command.path_is)

@@ -29,7 +29,7 @@ path_letter l e = absurd (some_none l (sym e))
 limit_letter : (l : ℕ) → None ≡ Some l → (l < 128) × (l ≢ 45) × (by_letter (side_option ∷ []) l ≡ None)
 limit_letter l e = absurd (some_none l (sym e))
 
--- the options can be told apart
+-- the options can be distinguished
 pub feed_table : IsTable feed_options
 feed_table = (λ e. cc, refl, refl, refl, list_letter, (λ e. cc, refl, refl, refl, path_letter, (λ e. cc, refl, refl, refl, limit_letter, (λ e. cc, refl, refl, refl, no_letter, tt))))
 
@@ -52,7 +52,7 @@ feed_found words found list path course script file frames is list_is path_is li
   operands = subst (λ (ws : List Text). AreScriptOperands ws script file frames) (ap (λ (o : Option (List Text)). unwrap_or o []) is.others ∙ some_list (own_words is.said)) operands;
 }
 
--- a value of an option or operands that are none make the words none
+-- without the value of an option, or without operands, the words are not the command
 pub no_path_found : (words : List Text) (found : ArgMatches) → IsFound feed_options words found → ((path : List Text) → ¬ IsPath (first_of (codes "path") (rows_of (found_of found))) path) → IsNoFeed (feed_word ∷ words)
 no_path_found words found is none list path course script file frames command =
     none path (subst (λ (v : Option Text). IsPath v path) (found_value feed_options words found command.1.said feed_table is command.1.reads command.1.once (codes "path") path_ne) command.1.path_is)

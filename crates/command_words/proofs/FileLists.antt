@@ -97,7 +97,7 @@ new_word ws w = go (has ws w) refl
 grows : (ws : List Text) (w : Text) → length ws ≤ length (with_word ws w)
 grows ws w = elim (has ws w) as (λ b. length ws ≤ length (cond b ws (ws ++ w ∷ []))) [ true ↦ omega arith | false ↦ omega (arith, length-append ws (w ∷ [])) ]
 
--- more words lose none and make no fewer
+-- more words lose no file, and the list gets no shorter
 firsts_keep : (ws more : List Text) (v : Text) → HasWord (firsts ws) v → HasWord (firsts (ws ++ more)) v
 firsts_keep ws [] v h = subst (λ (xs : List Text). HasWord (firsts xs) v) (sym (append-nil ws)) h
 firsts_keep ws (w ∷ more) v h =
@@ -131,7 +131,7 @@ each_more P (v ∷ ws) w all p = (all.0, each_more P ws w all.1 p)
 pub not_listed : (seen more files : List Text) (w : Text) → ¬ IsFileWord w → ¬ AreListed (seen ++ w ∷ more) files
 not_listed seen more files w refused h = refused (each_word IsFileWord (firsts (seen ++ w ∷ more)) w (subst (AllByRecursion IsFileWord) h.files_are h.each) (firsts_new seen more w))
 
--- a word that stands already
+-- a word that is in the list
 pub again_listed : (seen files : List Text) (w : Text) → AreListed seen files → HasWord files w → AreListed (seen ++ w ∷ []) files
 again_listed seen files w h stands = record {
   files_are = h.files_are ∙ sym (firsts_more seen w ∙ ap (λ b. cond b (firsts seen) (firsts seen ++ w ∷ [])) (word_has (firsts seen) w (subst (λ (xs : List Text). HasWord xs w) h.files_are stands)));
@@ -140,7 +140,7 @@ again_listed seen files w h stands = record {
   keys = h.keys;
 }
 
--- another word of a key that stands
+-- another word of a key that is in the list
 pub key_listed : (seen more files all : List Text) (v w : Text) → AreListed seen files → HasWord files v → key_of v ≡ key_of w → v ≢ w → ¬ AreListed (seen ++ w ∷ more) all
 key_listed seen more files all v w h stands same ne listed =
     let into : (x : Text) → HasWord (firsts (seen ++ w ∷ more)) x → HasWord all x = λ x. subst (λ (xs : List Text). HasWord xs x) (sym listed.files_are) in
@@ -172,7 +172,7 @@ new_listed seen files w h file none few = record {
     go v u same (inr e) (inl hu) = absurd (none u hu (sym (ap key_of e ∙ same)))
     go v u same (inr e) (inr f) = sym e ∙ f
 
--- a word of a new key, where the list is full
+-- a word of a new key, if the list is full
 pub full_listed : (seen more files all : List Text) (w : Text) → AreListed seen files → ((v : Text) → HasWord files v → key_of v ≢ key_of w) → 4096 ≤ length files → ¬ AreListed (seen ++ w ∷ more) all
 full_listed seen more files all w h none full listed =
     let one : length (files ++ w ∷ []) ≤ length (firsts ((seen ++ w ∷ []) ++ more)) = subst (λ (xs : List Text). length xs ≤ length (firsts ((seen ++ w ∷ []) ++ more))) (sym (new_firsts seen files w h none)) (firsts_grow (seen ++ w ∷ []) more) in

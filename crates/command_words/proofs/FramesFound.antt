@@ -22,7 +22,7 @@ list_letter l e = let is : 115 ≡ l = same_Some 115 l e in (omega arith, λ f. 
 path_letter : (l : ℕ) → None ≡ Some l → (l < 128) × (l ≢ 45) × (by_letter (to_option ∷ []) l ≡ None)
 path_letter l e = absurd (some_none l (sym e))
 
--- the options can be told apart
+-- the options can be distinguished
 pub frames_table : IsTable frames_options
 frames_table = (λ e. cc, refl, refl, refl, list_letter, (λ e. cc, refl, refl, refl, path_letter, (λ e. cc, refl, refl, refl, no_letter, tt)))
 
@@ -44,7 +44,7 @@ frames_found words found list path file frames convert is list_is path_is conver
   operands = subst (λ (ws : List Text). AreOperands ws file frames) (ap (λ (o : Option (List Text)). unwrap_or o []) is.others ∙ some_list (own_words is.said)) operands;
 }
 
--- a path, a value of `--to` or operands that are none make the words none
+-- without a path, a value of `--to` or operands the words are not the command
 pub no_path_found : (words : List Text) (found : ArgMatches) → IsFound frames_options words found → ((path : List Text) → ¬ IsPath (first_of (codes "path") (rows_of (found_of found))) path) → IsNoFrames (frames_word ∷ words)
 no_path_found words found is none list path file frames convert command =
     none path (subst (λ (v : Option Text). IsPath v path) (found_value frames_options words found command.1.said frames_table is command.1.reads command.1.once (codes "path") path_ne) command.1.path_is)

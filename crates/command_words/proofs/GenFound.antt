@@ -11,7 +11,7 @@ use Rattle.command_words.specs.Found.{IsFound}
 use Rattle.command_words.specs.Gen.{IsActors, IsGen, IsNoGen, IsRounds, SaysGen, gen_options, gen_word}
 use Rattle.command_words.proofs.Compiled.{Text, found_value, found_words, no_letter, same_value, same_words, some_list}
 
--- the option can be told from the other words
+-- the option can be distinguished from the other words
 pub gen_table : IsTable gen_options
 gen_table = (λ e. cc, refl, refl, refl, no_letter, tt)
 
@@ -29,7 +29,7 @@ gen_found words found rounds actors is actors_is rounds_is = record {
   rounds_is = subst (λ (ws : List Text). IsRounds ws rounds) (ap (λ (o : Option (List Text)). unwrap_or o []) is.others ∙ some_list (own_words is.said)) rounds_is;
 }
 
--- a number of actors or of rounds that is none makes the words none
+-- without a number of actors or of rounds the words are not the command
 pub no_actors_found : (words : List Text) (found : ArgMatches) → IsFound gen_options words found → ((actors : ℕ) → ¬ IsActors (first_of (codes "actors") (rows_of (found_of found))) actors) → IsNoGen (gen_word ∷ words)
 no_actors_found words found is none rounds actors command =
     none actors (subst (λ (v : Option Text). IsActors v actors)

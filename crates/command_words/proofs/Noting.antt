@@ -20,7 +20,7 @@ names es = map (λ e. e.1.now) es
 abbrev Keyed : Entries → Type 0
 Keyed es = AllByRecursion (λ e. key_of e.1.now ≡ e.0.now) es
 
--- the word that is found stands in the list, and has the key
+-- the word that is found is in the list, and has the key
 pub found_key : (key : List ℕ) (es : Entries) (v : Bor (List ℕ)) → Keyed es → Some v ≡ lookup (λ y. bytes_eq key y.now) es → HasWord (names es) v.now × (key_of v.now ≡ key)
 found_key key [] v k e = absurd (some_none v e)
 found_key key (x ∷ es) v k e = go (bytes_eq key x.0.now) refl e (found_key key es v k.1)

@@ -1,4 +1,4 @@
--- Words are one command at most, and what makes them none.
+-- Words are one command at most, and when they are not a command.
 use Rattle.std.proofs.Common.{◌≡◌, ◌≢◌, ◌∙◌, ◌+◌, ℕ, Bool, true, false, cond, List, [], ◌∷◌, length, map, refl, sym, ap, subst, arith, inl, inr}
 use Rattle.std.specs.Str.{bytes_eq}
 use Rattle.command_words.specs.Command.{CommandView, IsNoCommand, Say, audit, compile, feed, frames, gen, relay, run, waits}
@@ -20,7 +20,7 @@ use Rattle.command_words.proofs.RelayFound.{one_relay}
 use Rattle.command_words.proofs.RunFound.{one_run}
 use Rattle.command_words.proofs.WaitsFound.{one_waits}
 
--- the place of a word in a list, which is the length of the list where it is not there
+-- the place of a word in a list, which is the length of the list if it is not there
 abbrev place : List Text → Text → ℕ
 place [] word = 0
 place (w ∷ ws) word = cond (bytes_eq w word) 0 (1 + place ws word)
@@ -81,7 +81,7 @@ one_command words (audit l p n s f g) (audit l' p' n' s' f' g') a b = let e = on
 one_command words (relay l p c s f) (relay l' p' c' s' f') a b = let e = one_relay words l l' p p' c c' s s' f f' a b in rw (e.0, e.1, e.2, e.3, e.4) refl
 one_command words one other a b = let e = kind_is words one a ∙ sym (kind_is words other b) in absurd (omega (arith, e))
 
--- words that choose no other command and compile nothing are none
+-- words that choose no other command and compile nothing are not a command
 pub none_for_compile : (words : List Text) → IsForCompile words → IsNoCompile words → IsNoCommand words
 none_for_compile words for none (compile l p f) said = none l p f said
 none_for_compile [] for none command said = absurd said
@@ -102,55 +102,55 @@ pub none_to_compile : {X : Type 0} (f : X → Text) (words : List X) → length 
 none_to_compile f [] e = tt
 none_to_compile f (word ∷ words) e = absurd (omega arith)
 
--- words that begin with the word of one command and are no such command are none
-behind : (words rest : List Text) (word : Text) → words ≡ word ∷ rest → IsNoCommand (word ∷ rest) → IsNoCommand words
-behind words rest word e none = subst IsNoCommand (sym e) none
+-- words that begin with the word of one command and are not that command are not a command
+following : (words rest : List Text) (word : Text) → words ≡ word ∷ rest → IsNoCommand (word ∷ rest) → IsNoCommand words
+following words rest word e none = subst IsNoCommand (sym e) none
 
 no_frames : (rest : List Text) → IsNoFrames (frames_word ∷ rest) → IsNoCommand (frames_word ∷ rest)
 no_frames rest none (frames l p f g c) said = none l p f g c said
 no_frames rest none command said = let e = kind_is (frames_word ∷ rest) command said in absurd (omega (arith, e))
 
-pub none_behind_frames : (words rest : List Text) → words ≡ frames_word ∷ rest → IsNoFrames (frames_word ∷ rest) → IsNoCommand words
-none_behind_frames words rest e none = behind words rest frames_word e (no_frames rest none)
+pub none_after_frames : (words rest : List Text) → words ≡ frames_word ∷ rest → IsNoFrames (frames_word ∷ rest) → IsNoCommand words
+none_after_frames words rest e none = following words rest frames_word e (no_frames rest none)
 
 no_waits : (rest : List Text) → IsNoWaits (waits_word ∷ rest) → IsNoCommand (waits_word ∷ rest)
 no_waits rest none (waits l p f) said = none l p f said
 no_waits rest none command said = let e = kind_is (waits_word ∷ rest) command said in absurd (omega (arith, e))
 
-pub none_behind_waits : (words rest : List Text) → words ≡ waits_word ∷ rest → IsNoWaits (waits_word ∷ rest) → IsNoCommand words
-none_behind_waits words rest e none = behind words rest waits_word e (no_waits rest none)
+pub none_after_waits : (words rest : List Text) → words ≡ waits_word ∷ rest → IsNoWaits (waits_word ∷ rest) → IsNoCommand words
+none_after_waits words rest e none = following words rest waits_word e (no_waits rest none)
 
 no_run : (rest : List Text) → IsNoRun (run_word ∷ rest) → IsNoCommand (run_word ∷ rest)
 no_run rest none (run l p c s f) said = none l p c s f said
 no_run rest none command said = let e = kind_is (run_word ∷ rest) command said in absurd (omega (arith, e))
 
-pub none_behind_run : (words rest : List Text) → words ≡ run_word ∷ rest → IsNoRun (run_word ∷ rest) → IsNoCommand words
-none_behind_run words rest e none = behind words rest run_word e (no_run rest none)
+pub none_after_run : (words rest : List Text) → words ≡ run_word ∷ rest → IsNoRun (run_word ∷ rest) → IsNoCommand words
+none_after_run words rest e none = following words rest run_word e (no_run rest none)
 
 no_gen : (rest : List Text) → IsNoGen (gen_word ∷ rest) → IsNoCommand (gen_word ∷ rest)
 no_gen rest none (gen n m) said = none n m said
 no_gen rest none command said = let e = kind_is (gen_word ∷ rest) command said in absurd (omega (arith, e))
 
-pub none_behind_gen : (words rest : List Text) → words ≡ gen_word ∷ rest → IsNoGen (gen_word ∷ rest) → IsNoCommand words
-none_behind_gen words rest e none = behind words rest gen_word e (no_gen rest none)
+pub none_after_gen : (words rest : List Text) → words ≡ gen_word ∷ rest → IsNoGen (gen_word ∷ rest) → IsNoCommand words
+none_after_gen words rest e none = following words rest gen_word e (no_gen rest none)
 
 no_feed : (rest : List Text) → IsNoFeed (feed_word ∷ rest) → IsNoCommand (feed_word ∷ rest)
 no_feed rest none (feed l p c s f g) said = none l p c s f g said
 no_feed rest none command said = let e = kind_is (feed_word ∷ rest) command said in absurd (omega (arith, e))
 
-pub none_behind_feed : (words rest : List Text) → words ≡ feed_word ∷ rest → IsNoFeed (feed_word ∷ rest) → IsNoCommand words
-none_behind_feed words rest e none = behind words rest feed_word e (no_feed rest none)
+pub none_after_feed : (words rest : List Text) → words ≡ feed_word ∷ rest → IsNoFeed (feed_word ∷ rest) → IsNoCommand words
+none_after_feed words rest e none = following words rest feed_word e (no_feed rest none)
 
 no_audit : (rest : List Text) → IsNoAudit (audit_word ∷ rest) → IsNoCommand (audit_word ∷ rest)
 no_audit rest none (audit l p n s f g) said = none l p n s f g said
 no_audit rest none command said = let e = kind_is (audit_word ∷ rest) command said in absurd (omega (arith, e))
 
-pub none_behind_audit : (words rest : List Text) → words ≡ audit_word ∷ rest → IsNoAudit (audit_word ∷ rest) → IsNoCommand words
-none_behind_audit words rest e none = behind words rest audit_word e (no_audit rest none)
+pub none_after_audit : (words rest : List Text) → words ≡ audit_word ∷ rest → IsNoAudit (audit_word ∷ rest) → IsNoCommand words
+none_after_audit words rest e none = following words rest audit_word e (no_audit rest none)
 
 no_relay : (rest : List Text) → IsNoRelay (relay_word ∷ rest) → IsNoCommand (relay_word ∷ rest)
 no_relay rest none (relay l p c s f) said = none l p c s f said
 no_relay rest none command said = let e = kind_is (relay_word ∷ rest) command said in absurd (omega (arith, e))
 
-pub none_behind_relay : (words rest : List Text) → words ≡ relay_word ∷ rest → IsNoRelay (relay_word ∷ rest) → IsNoCommand words
-none_behind_relay words rest e none = behind words rest relay_word e (no_relay rest none)
+pub none_after_relay : (words rest : List Text) → words ≡ relay_word ∷ rest → IsNoRelay (relay_word ∷ rest) → IsNoCommand words
+none_after_relay words rest e none = following words rest relay_word e (no_relay rest none)

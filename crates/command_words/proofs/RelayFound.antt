@@ -21,7 +21,7 @@ use Rattle.command_words.proofs.RunFound.{die_ne, limit_letter, limit_ne, same_f
 list_letter : (l : ℕ) → Some 115 ≡ Some l → (l < 128) × (l ≢ 45) × (by_letter (path_option ∷ limit_option ∷ die_option ∷ []) l ≡ None)
 list_letter l e = let is : 115 ≡ l = same_Some 115 l e in (omega arith, λ f. absurd (omega arith), refl)
 
--- the options can be told apart
+-- the options can be distinguished
 pub relay_table : IsTable relay_options
 relay_table = (
   λ e. cc,
@@ -48,7 +48,7 @@ relay_found words found list path course script file is list_is path_is limit_is
   operands = subst (λ (ws : List Text). AreRunOperands ws script file) (ap (λ (o : Option (List Text)). unwrap_or o []) is.others ∙ some_list (own_words is.said)) operands;
 }
 
--- a value of an option or operands that are none make the words none
+-- without the value of an option, or without operands, the words are not the command
 pub no_path_found : (words : List Text) (found : ArgMatches) → IsFound relay_options words found → ((path : List Text) → ¬ IsPath (first_of (codes "path") (rows_of (found_of found))) path) → IsNoRelay (relay_word ∷ words)
 no_path_found words found is none list path course script file command =
     none path (subst (λ (v : Option Text). IsPath v path) (found_value relay_options words found command.1.said relay_table is command.1.reads command.1.once (codes "path") path_ne) command.1.path_is)

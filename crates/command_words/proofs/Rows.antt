@@ -1,4 +1,4 @@
--- What the rows of what was said hold: the value of each option, and the other words.
+-- The rows of what was said: the value of each option, and the other words.
 use Rattle.std.proofs.Common.{◌≡◌, ◌∙◌, ◌&&◌, ◌||◌, ℕ, Bool, true, false, cond, List, [], ◌∷◌, ◌++◌, Option, Some, None, option_map, map, refl, sym, ap, subst, append_assoc, append-nil}
 use Rattle.std.specs.Prelude.{find, is_some, option_and_then, slice_get}
 use Rattle.std.specs.Option.{option_or}
@@ -72,7 +72,7 @@ valued_none id v (r ∷ rows) e =
 added_given : (name v : Text) (rows : List Row) → look name rows ≡ None → added rows (Given name v) ≡ rows ++ given name v ∷ []
 added_given name v rows e = ap (with_values name (reading_by words_rule) CommandLine (v ∷ [])) (without_none name rows e) ∙ valued_none name v rows e
 
--- an option is no fault where it has no row
+-- an option is no fault if it has no row
 lacks_fresh : (name v : Text) (rows : List Row) → look name rows ≡ None → said_fault rows (Given name v) ≡ []
 lacks_fresh name v rows e = ap (λ b. or_else (cond (b && true) (ArgumentConflict ∷ []) []) []) (has_look name rows ∙ ap (λ (o : Option Row). is_some o) e)
 

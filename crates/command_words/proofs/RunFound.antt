@@ -32,7 +32,7 @@ schedule_letter l e = absurd (some_none l (sym e))
 pub limit_letter : (l : ℕ) → None ≡ Some l → (l < 128) × (l ≢ 45) × (by_letter (die_option ∷ []) l ≡ None)
 limit_letter l e = absurd (some_none l (sym e))
 
--- the options can be told apart
+-- the options can be distinguished
 pub run_table : IsTable run_options
 run_table = (
   λ e. cc,
@@ -69,7 +69,7 @@ run_found words found list path course script file is list_is path_is schedule_i
   operands = subst (λ (ws : List Text). AreRunOperands ws script file) (ap (λ (o : Option (List Text)). unwrap_or o []) is.others ∙ some_list (own_words is.said)) operands;
 }
 
--- a value of an option or operands that are none make the words none
+-- without the value of an option, or without operands, the words are not the command
 pub no_path_found : (words : List Text) (found : ArgMatches) → IsFound run_options words found → ((path : List Text) → ¬ IsPath (first_of (codes "path") (rows_of (found_of found))) path) → IsNoRun (run_word ∷ words)
 no_path_found words found is none list path course script file command =
     none path (subst (λ (v : Option Text). IsPath v path) (found_value run_options words found command.1.said run_table is command.1.reads command.1.once (codes "path") path_ne) command.1.path_is)

@@ -20,7 +20,7 @@ use Rattle.command_words.proofs.Lookups.{full_rules, long_found, option_rule, sh
 abbrev pub dashes : Text
 dashes = 45 ∷ 45 ∷ []
 
--- nothing is held but rows and a pending use
+-- nothing is kept but rows and a pending use
 abbrev pub holds : List Row → Option (Text × List Text) → Held
 holds rows pending = record { rows = rows; pending = pending; skip = 0 }
 
@@ -204,10 +204,10 @@ module _ (options : List Choice) (l : ℕ) (rest : Text) (other : l ≢ 45) wher
   pub short_bad : (c : ℕ) → slice_get (chars (l ∷ rest)) 0 ≡ Some c → by_letter options c ≡ None → IsBad options (45 ∷ l ∷ rest)
   short_bad c first is =
       let found : arg_by_short (full_rules options) c ≡ None = short_found options c ∙ ap (option_map option_rule) is in
-      let behind : Text = drop (length (encode_utf8 c)) (l ∷ rest) in
+      let following : Text = drop (length (encode_utf8 c)) (l ∷ rest) in
       record {
         fault = λ w rows pending.
             short_first_fault w (holds rows pending)
             ∙ bundle_first_fault c rows pending first
-            ∙ ap (λ (a : Option Rule). short_fault (full_rules options) false a behind (holds rows pending) (flags_fault (full_rules options) false (length rest) behind 0)) found;
+            ∙ ap (λ (a : Option Rule). short_fault (full_rules options) false a following (holds rows pending) (flags_fault (full_rules options) false (length rest) following 0)) found;
       }

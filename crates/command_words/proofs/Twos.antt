@@ -21,7 +21,7 @@ are_zeros : (digits : List ℕ) → AllByRecursion (λ b. b ≡ 48) digits → l
 are_zeros [] h = refl
 are_zeros (d ∷ ds) h = and_from (d == 48) (list_all (λ b. b == 48) ds) (ap (λ b. b == 48) h.0 ∙ same_byte 48) (are_zeros ds h.1)
 
--- a text that ends with the digit 2 is the number 2 where zeros stand before it
+-- a text that ends with the digit 2 is the number 2 if zeros are before it
 pub two_is : (text zeros : List ℕ) → pointwise nat_eq (drop (length text - 1) text) (50 ∷ []) ≡ true → zeros ≡ take (length text - 1) text → (list_all (λ b. b == 48) zeros ≡ true) ↔ IsTwo text
 two_is text zeros last front =
     let whole : text ≡ zeros ++ 50 ∷ [] =

@@ -32,7 +32,7 @@ lacks : (text : Text) → has_byte 61 text ≡ false → Lacks 61 text
 lacks [] e = lacks_none
 lacks (x ∷ xs) e = let both = or_parts (x == 61) (has_byte 61 xs) e in lacks_more x xs (byte_is_not x 61 both.0) (lacks xs both.1)
 
--- A text, cut at its first `=` where it has one.
+-- A text, cut at its first `=`, if it has one.
 data Cut (text : Text) : Type 0 where
   whole : Lacks 61 text → Cut text
   cut : (name value : Text) → text ≡ name ++ 61 ∷ value → Lacks 61 name → Cut text
@@ -130,12 +130,12 @@ view options [] t u = is_plain tt
 view options (b ∷ []) t u = is_plain tt
 view options (b ∷ c ∷ rest) t u = go (b == 45) refl (c == 45) refl rest refl
   where
-    behind : b ≡ 45 → IsUtf8 (c ∷ rest)
-    behind e = IsUtf8-drop (b ∷ c ∷ rest) 1 u (IsCharBoundary-after_ascii (b ∷ c ∷ rest) 0 u (omega arith) (omega arith))
+    following : b ≡ 45 → IsUtf8 (c ∷ rest)
+    following e = IsUtf8-drop (b ∷ c ∷ rest) 1 u (IsCharBoundary-after_ascii (b ∷ c ∷ rest) 0 u (omega arith) (omega arith))
 
     go : (p : Bool) → (b == 45) ≡ p → (q : Bool) → (c == 45) ≡ q → (r : Text) → r ≡ rest → View options (b ∷ c ∷ rest)
     go false e q f r is = is_plain (byte_is_not b 45 e)
-    go true e false f r is = let dash : b ≡ 45 = byte_is b 45 e in subst (λ (x : ℕ). View options (x ∷ c ∷ rest)) (sym dash) (short_view options c rest t (behind dash) (byte_is_not c 45 f))
+    go true e false f r is = let dash : b ≡ 45 = byte_is b 45 e in subst (λ (x : ℕ). View options (x ∷ c ∷ rest)) (sym dash) (short_view options c rest t (following dash) (byte_is_not c 45 f))
     go true e true f [] is = is_end (ap (λ (x : ℕ). x ∷ c ∷ rest) (byte_is b 45 e) ∙ ap (λ (x : ℕ). 45 ∷ x ∷ rest) (byte_is c 45 f) ∙ ap (λ (r : Text). 45 ∷ 45 ∷ r) (sym is))
     go true e true f (x ∷ xs) is =
         subst (λ (w : Text). View options w) (ap (λ (r : Text). 45 ∷ 45 ∷ r) is ∙ ap (λ (y : ℕ). 45 ∷ y ∷ rest) (sym (byte_is c 45 f)) ∙ ap (λ (y : ℕ). y ∷ c ∷ rest) (sym (byte_is b 45 e))) (long_view options x xs)

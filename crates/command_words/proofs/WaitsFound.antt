@@ -23,7 +23,7 @@ waits_found words found list path file is list_is path_is operand = record {
   operand = subst (λ (ws : List Text). IsOperand ws file) (ap (λ (o : Option (List Text)). unwrap_or o []) is.others ∙ some_list (own_words is.said)) operand;
 }
 
--- a path or an operand that is none makes the words none
+-- without a path or an operand the words are not the command
 pub no_path_found : (words : List Text) (found : ArgMatches) → IsFound compile_options words found → ((path : List Text) → ¬ IsPath (first_of (codes "path") (rows_of (found_of found))) path) → IsNoWaits (waits_word ∷ words)
 no_path_found words found is none list path file command =
     none path (subst (λ (v : Option Text). IsPath v path) (found_value compile_options words found command.1.said table is command.1.reads command.1.once (codes "path") path_ne) command.1.path_is)

@@ -76,7 +76,7 @@ added_then : (rows : List Row) (p : Option WordUse) (said : List WordUse) → al
 added_then rows None said = refl
 added_then rows (Some s) said = refl
 
--- no fault of two, and none of three
+-- no fault of two, and no fault of three
 none_of_two : (a b : Kinds) → or_else a b ≡ [] → (a ≡ []) × (b ≡ [])
 none_of_two [] b e = (refl, e)
 none_of_two (k ∷ ks) b e = cc
@@ -120,7 +120,7 @@ record Turn (options : List Choice) (from : Walk) (word : Text) (to : Walk) (fau
   leads : walked (full_rules options) [] from word ≡ to
   faults : turn_fault (top options) [] from word ≡ fault
 
--- no fault after a turn is none in it and none after it
+-- no fault after a turn means no fault in it and no fault after it
 turned : (options : List Choice) (from : Walk) (word : Text) (to : Walk) (fault : Kinds) (words : List Text) → Turn options from word to fault → total options from (word ∷ words) ≡ [] → (fault ≡ []) × (total options to words ≡ [])
 turned options from word to fault words turn e =
     let both = none_of_two (turn_fault (top options) [] from word) (total options (walked (full_rules options) [] from word) words) (sym (total_next options from word words) ∙ e) in
@@ -214,7 +214,7 @@ bad_turn options rows p w word words bad e =
     let clash : UnknownArgument ∷ [] ≡ [] = sym (bad.fault w rows p) ∙ first.0 in
     cc
 
--- an option that waits for its value is a fault where the walk ends or goes on without it
+-- an option that waits for its value is a fault if the walk ends or continues without it
 waits_fault : (options : List Choice) (table : IsTable options) (rows : List Row) (o : Choice) → IsAmong options o → settle_fault (full_rules options) false (holds rows (Some (o.name, []))) ≡ [] → ⊥
 waits_fault options table rows o among e =
     let is : InvalidValue ∷ [] ≡ [] = ap (λ a. option_map_or (λ a. use_fault false a [] rows) a []) (sym (option_by_id options o table among)) ∙ e in
@@ -275,7 +275,7 @@ Rest options (between rows p b) words = (said : List WordUse) × Reads options w
 Rest options (wanting rows o) [] = ⊥
 Rest options (wanting rows o) (v ∷ words) = IsPlain v × ((said : List WordUse) × Reads options words said × IsFresh rows (Given o.name v ∷ said))
 
--- one word, where the words behind it are read from whatever walk
+-- one word, if the words after it are read from any walk
 one_word : (options : List Choice) (table : IsTable options) (word : Text) (words : List Text) → IsUtf8 word
     → ((s : Stage) → IsStage options s → total options (walk_of s) words ≡ [] → Rest options s words)
     → (s : Stage) → IsStage options s → View options word → total options (walk_of s) (word ∷ words) ≡ [] → Rest options s (word ∷ words)
@@ -403,7 +403,7 @@ read_runs options table _ _ (joined o word v words said among is reads) rows p b
     (subst (λ (r : List Row). Runs options (at (added r (Given o.name v)) None idle false) words (all_added (after_pending rows p) (Given o.name v ∷ said))) (sym settled_is)
     (read_runs options table words said reads (added (after_pending rows p) (Given o.name v)) None false tt parts.1.1)))
 
--- ---- behind the walk
+-- ---- after the walk
 
 same_either : (b : Bool) (rows : List Row) → cond b rows rows ≡ rows
 same_either true rows = refl

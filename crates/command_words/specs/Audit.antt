@@ -13,7 +13,7 @@ audit_word = codes "audit"
 abbrev pub audit_options : List Choice
 audit_options = list_option ∷ path_option ∷ limit_option ∷ []
 
--- what stands behind the first word
+-- what the words after the first word say
 pub record SaysAudit (words : List (List ℕ)) (list : Option (List ℕ)) (path : List (List ℕ)) (limit : ℕ) (script file transcript : List ℕ) : Type 0 where
   pub said : List WordUse
   pub reads : Reads audit_options words said

@@ -2,6 +2,10 @@
 use Rattle.std.specs.Prelude.{◌≡◌, ℕ, Bool, List, Option, map, option_map, string_bytes}
 use Rattle.command_words.specs.declared.command.Command.{Command}
 use Rattle.command_words.specs.declared.command.Command.TheVariants as commands
+use Rattle.command_words.specs.declared.command.Sources.{Sources}
+use Rattle.command_words.specs.declared.feed.FeedOptions.{FeedOptions}
+use Rattle.command_words.specs.declared.relay.RelayOptions.{RelayOptions}
+use Rattle.command_words.specs.declared.run.RunOptions.{RunOptions}
 use Rattle.command_words.specs.Audit.{IsAudit}
 use Rattle.command_words.specs.Compile.{IsCompile}
 use Rattle.command_words.specs.Feed.{FeedCourse, IsFeed}
@@ -22,17 +26,36 @@ pub data CommandView : Type 0 where
   audit : Option (List ℕ) → List (List ℕ) → ℕ → List ℕ → List ℕ → List ℕ → CommandView
   relay : Option (List ℕ) → List (List ℕ) → RelayCourse → List ℕ → List ℕ → CommandView
 
+-- the sync list, the folders and the file that a command names
+abbrev pub list_of : Sources → Option (List ℕ)
+list_of sources = option_map string_bytes sources.list
+
+abbrev pub path_of : Sources → List (List ℕ)
+path_of sources = map string_bytes sources.path.items
+
+abbrev pub file_of : Sources → List ℕ
+file_of sources = string_bytes sources.file
+
+-- how a run, a feed and a relay go by their options
+abbrev pub run_course : RunOptions → Course
+run_course options = record { schedule = option_map (λ turns. turns.items) options.schedule; limit = options.limit; death = options.death }
+
+abbrev pub feed_course : FeedOptions → FeedCourse
+feed_course options = record { side = options.side; limit = options.limit }
+
+abbrev pub relay_course : RelayOptions → RelayCourse
+relay_course options = record { limit = options.limit; death = options.death }
+
+-- what a command says
 abbrev pub view_of : Command → CommandView
 view_of (commands.Compile list path files) = compile (option_map string_bytes list) (map string_bytes path.items) (map string_bytes files.items)
-view_of (commands.Frames list path file given convert) = frames (option_map string_bytes list) (map string_bytes path.items) (string_bytes file) (string_bytes given) convert
-view_of (commands.Waits list path file) = waits (option_map string_bytes list) (map string_bytes path.items) (string_bytes file)
-view_of (commands.Run list path schedule limit death script file) =
-    run (option_map string_bytes list) (map string_bytes path.items) (record { schedule = option_map (λ turns. turns.items) schedule; limit = limit; death = death }) (string_bytes script) (string_bytes file)
+view_of (commands.Frames sources options) = frames (list_of sources) (path_of sources) (file_of sources) (string_bytes options.frames) options.convert
+view_of (commands.Waits sources) = waits (list_of sources) (path_of sources) (file_of sources)
+view_of (commands.Run sources options) = run (list_of sources) (path_of sources) (run_course options) (string_bytes options.script) (file_of sources)
 view_of (commands.Gen rounds actors) = gen rounds actors
-view_of (commands.Feed list path limit side script file given) =
-    feed (option_map string_bytes list) (map string_bytes path.items) (record { side = side; limit = limit }) (string_bytes script) (string_bytes file) (string_bytes given)
-view_of (commands.Audit list path limit script file given) = audit (option_map string_bytes list) (map string_bytes path.items) limit (string_bytes script) (string_bytes file) (string_bytes given)
-view_of (commands.Relay list path limit death script file) = relay (option_map string_bytes list) (map string_bytes path.items) (record { limit = limit; death = death }) (string_bytes script) (string_bytes file)
+view_of (commands.Feed sources options) = feed (list_of sources) (path_of sources) (feed_course options) (string_bytes options.script) (file_of sources) (string_bytes options.frames)
+view_of (commands.Audit sources options) = audit (list_of sources) (path_of sources) options.limit (string_bytes options.script) (file_of sources) (string_bytes options.transcript)
+view_of (commands.Relay sources options) = relay (list_of sources) (path_of sources) (relay_course options) (string_bytes options.script) (file_of sources)
 
 -- the words say this
 abbrev pub Say : List (List ℕ) → CommandView → Type 0

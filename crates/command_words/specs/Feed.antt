@@ -28,7 +28,7 @@ pub record FeedCourse : Type 0 where
   pub side : Side
   pub limit : ℕ
 
--- what stands behind the first word
+-- what the words after the first word say
 pub record SaysFeed (words : List (List ℕ)) (list : Option (List ℕ)) (path : List (List ℕ)) (course : FeedCourse) (script file frames : List ℕ) : Type 0 where
   pub said : List WordUse
   pub reads : Reads feed_options words said

@@ -5,7 +5,7 @@ use Rattle.clap.specs.declared.parser.matches.ArgMatches.{ArgMatches}
 use Rattle.command_words.specs.Options.{Choice, EachOnce, Reads, WordUse, own_words, value_of}
 use Rattle.command_words.specs.Forms.{own_id}
 
--- the list, where it is not empty
+-- the list, if it is not empty
 abbrev pub some_of : List (List ℕ) → Option (List (List ℕ))
 some_of [] = None
 some_of (word ∷ words) = Some (word ∷ words)

@@ -15,7 +15,7 @@ to_option = record { name = codes "to"; letter = None }
 abbrev pub frames_options : List Choice
 frames_options = list_option ∷ path_option ∷ to_option ∷ []
 
--- the number 2 in decimal digits, perhaps behind zeros
+-- the number 2 in decimal digits, perhaps after zeros
 pub record IsTwo (text : List ℕ) : Type 0 where
   pub zeros : List ℕ
   pub each : AllByRecursion (λ b. b ≡ 48) zeros
@@ -32,7 +32,7 @@ pub record AreOperands (words : List (List ℕ)) (file frames : List ℕ) : Type
   pub ending : file ≡ front ++ codes ".ipdl"
   pub both : words ≡ file ∷ frames ∷ []
 
--- what stands behind the first word
+-- what the words after the first word say
 pub record SaysFrames (words : List (List ℕ)) (list : Option (List ℕ)) (path : List (List ℕ)) (file frames : List ℕ) (convert : Bool) : Type 0 where
   pub said : List WordUse
   pub reads : Reads frames_options words said

@@ -31,7 +31,7 @@ pub record IsRounds (words : List (List ℕ)) (rounds : ℕ) : Type 0 where
   pub one : words ≡ text ∷ []
   pub count : IsCount 1000 text rounds
 
--- what stands behind the first word
+-- what the words after the first word say
 pub record SaysGen (words : List (List ℕ)) (rounds actors : ℕ) : Type 0 where
   pub said : List WordUse
   pub reads : Reads gen_options words said
@@ -39,7 +39,7 @@ pub record SaysGen (words : List (List ℕ)) (rounds actors : ℕ) : Type 0 wher
   pub actors_is : IsActors (value_of (codes "actors") said) actors
   pub rounds_is : IsRounds (own_words said) rounds
 
--- The words are the command that runs the case of so many rounds over so many actors.
+-- The words are the command that runs the case with these numbers of rounds and actors.
 abbrev pub IsGen : List (List ℕ) → ℕ → ℕ → Type 0
 IsGen [] rounds actors = ⊥
 IsGen (word ∷ words) rounds actors = (word ≡ gen_word) × SaysGen words rounds actors

@@ -7,7 +7,7 @@ use Rattle.std.specs.declared.hash.BuildHasherDefault.{BuildHasherDefault}
 use Rattle.indexmap.specs.IndexMap.{IndexMap}
 use Rattle.ipdl_base.specs.FileNames.{key_of}
 
--- what stands between the colons of a text
+-- what is between the colons of a text
 abbrev pub pieces : List ℕ → List (List ℕ)
 pieces text = slice_split (λ b. b == 58) text
 
@@ -19,6 +19,6 @@ Noted = IndexMap (Bor (List ℕ)) (Bor (List ℕ)) (BuildHasherDefault FoldHashe
 abbrev pub names_of : Noted → List (List ℕ)
 names_of noted = map (λ entry. entry.1.now) noted.entries
 
--- each stands under its key
+-- each is under its key
 abbrev pub IsKeyed : Noted → Type 0
 IsKeyed noted = AllByRecursion (λ entry. key_of entry.1.now ≡ entry.0.now) noted.entries

@@ -2,7 +2,7 @@
 use Rattle.std.specs.Prelude.{◌≡◌, ◌≢◌, ℕ, ◌⊎◌, if◌then◌else◌, List, [], ◌∷◌, ◌++◌, Option, Some, None, map, codes}
 use Rattle.std.specs.Str.{bytes_eq}
 
--- An option: its long name, and the letter of its short form where it has one.
+-- An option: its long name, and the letter of its short form, if it has one.
 pub record Choice : Type 0 where
   pub name : List ℕ
   pub letter : Option ℕ
@@ -27,7 +27,7 @@ pub data WordUse : Type 0 where
 abbrev pub IsApart : Choice → List ℕ → Type 0
 IsApart o word = (word ≡ codes "--" ++ o.name) ⊎ ((l : ℕ) × (o.letter ≡ Some l) × (word ≡ 45 ∷ l ∷ []))
 
--- text behind `-l` that is its value: it is not empty and has no `=` in front
+-- text after `-l` that is its value: it is not empty and does not begin with `=`
 abbrev pub IsAttached : List ℕ → Type 0
 IsAttached [] = ⊥
 IsAttached (b ∷ rest) = b ≢ 61
@@ -58,7 +58,7 @@ value_of name [] = None
 value_of name (Given n value ∷ said) = if bytes_eq n name then Some value else value_of name said
 value_of name (Own word ∷ said) = value_of name said
 
--- no option is given again behind its first value
+-- no option is given again after its first value
 abbrev pub EachOnce : List WordUse → Type 0
 EachOnce [] = Unit {0}
 EachOnce (Given name value ∷ said) = (value_of name said ≡ None) × EachOnce said

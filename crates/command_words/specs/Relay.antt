@@ -18,7 +18,7 @@ pub record RelayCourse : Type 0 where
   pub limit : ℕ
   pub death : Option Stop
 
--- what stands behind the first word
+-- what the words after the first word say
 pub record SaysRelay (words : List (List ℕ)) (list : Option (List ℕ)) (path : List (List ℕ)) (course : RelayCourse) (script file : List ℕ) : Type 0 where
   pub said : List WordUse
   pub reads : Reads relay_options words said

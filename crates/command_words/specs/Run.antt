@@ -25,7 +25,7 @@ die_option = record { name = codes "die"; letter = None }
 abbrev pub run_options : List Choice
 run_options = list_option ∷ path_option ∷ schedule_option ∷ limit_option ∷ die_option ∷ []
 
--- How a run goes: its word of turns, where one is given, the most events of a side, and the death of an end.
+-- How a run goes: its word of turns, if one is given, the most events of a side, and the death of an end.
 pub record Course : Type 0 where
   pub schedule : Option (List Turn)
   pub limit : ℕ
@@ -37,7 +37,7 @@ pub record AreRunOperands (words : List (List ℕ)) (script file : List ℕ) : T
   pub ending : file ≡ front ++ codes ".ipdl"
   pub both : words ≡ script ∷ file ∷ []
 
--- what stands behind the first word
+-- what the words after the first word say
 pub record SaysRun (words : List (List ℕ)) (list : Option (List ℕ)) (path : List (List ℕ)) (course : Course) (script file : List ℕ) : Type 0 where
   pub said : List WordUse
   pub reads : Reads run_options words said

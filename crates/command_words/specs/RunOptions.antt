@@ -7,7 +7,7 @@ use Rattle.schedules.specs.declared.stop.Stop.{Stop}
 use Rattle.schedules.specs.declared.turn.Turn.{Turn}
 use Rattle.std.specs.Prelude.{Bool, true, false}
 
--- a number in decimal digits without a sign, perhaps behind zeros
+-- a number in decimal digits without a sign, perhaps after zeros
 pub record IsNumber (text : List ℕ) (n : ℕ) : Type 0 where
   pub digits : IsNumeral 10 text
   pub value : n ≡ digits_value 10 text
@@ -27,7 +27,7 @@ pub record IsWordOf (text : List ℕ) (turns : List Turn) : Type 0 where
   pub letters : text ≡ map letter_of turns
   pub most : length text ≤ 40000
 
--- the turns of `--schedule`, where it is given
+-- the turns of `--schedule`, if it is given
 abbrev pub IsSchedule : Option (List ℕ) → Option (List Turn) → Type 0
 IsSchedule None schedule = schedule ≡ None
 IsSchedule (Some text) schedule = (turns : List Turn) × (IsWordOf text turns × (schedule ≡ Some turns))
@@ -54,7 +54,7 @@ pub record IsStopOf (text : List ℕ) (stop : Stop) : Type 0 where
   pub is_number : IsNumber number stop.after
   pub most : stop.after ≤ 20000
 
--- the death that `--die` gives an end, where it is given
+-- the death that `--die` gives an end, if it is given
 abbrev pub IsDeath : Option (List ℕ) → Option Stop → Type 0
 IsDeath None death = death ≡ None
 IsDeath (Some text) death = (stop : Stop) × (IsStopOf text stop × (death ≡ Some stop))

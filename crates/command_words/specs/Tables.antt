@@ -18,7 +18,7 @@ abbrev pub by_letter : List Choice → ℕ → Option Choice
 by_letter options l = find (λ o. has_letter o l) options
 
 -- A table of options: names are not empty, have no `=` and are not by what the other words are known;
--- letters are ASCII and no `-`; and no name or letter stands twice.
+-- letters are ASCII and no `-`; and no name or letter is there twice.
 abbrev pub IsTable : List Choice → Type 0
 IsTable [] = Unit {0}
 IsTable (o ∷ os) = (o.name ≢ []) × (has_byte 61 o.name ≡ false) × (bytes_eq o.name own_id ≡ false) × (by_name os o.name ≡ None)

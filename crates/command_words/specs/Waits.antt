@@ -13,7 +13,7 @@ pub record IsOperand (words : List (List ℕ)) (file : List ℕ) : Type 0 where
   pub ending : file ≡ front ++ codes ".ipdl"
   pub one : words ≡ file ∷ []
 
--- what stands behind the first word
+-- what the words after the first word say
 pub record SaysWaits (words : List (List ℕ)) (list : Option (List ℕ)) (path : List (List ℕ)) (file : List ℕ) : Type 0 where
   pub said : List WordUse
   pub reads : Reads compile_options words said

@@ -1,3 +1,4 @@
+//! The words of the command that compiles files.
 ghost use Rattle.std.specs.Prelude.{◌≡◌, IfErr, IfOk, map, string_bytes};
 ghost use Rattle.command_words.specs.Command.{CommandOf};
 ghost use Rattle.command_words.specs.Compile.{IsForCompile, IsNoCompile};
@@ -22,7 +23,7 @@ pub const COMPILE_OPTIONS: [Choice; 2] = [
     },
 ];
 
-/// The command that compiles files, where its words are one.
+/// Reads the words as the command that compiles files. The fault is `Usage` if they do not fit it (docs/command_line.md).
 pub fn compile(alloc: Global, words: &[String]) -> Result<Command, WordsFault>
     requires { IsForCompile (map string_bytes words.now) }
     ensures command { IfOk result (λ command. CommandOf (map string_bytes words.now) command) }

@@ -1,3 +1,4 @@
+//! How runs, feeds and relays go: the values of `--schedule`, `--limit` and `--die`.
 ghost use Rattle.std.specs.Prelude.{◌≡◌, ◌≤◌, ◌++◌, ℕ, List, Option, None, IfErr, IfOk, IfSome, codes, map, option_map};
 ghost use Rattle.ipdl_base.specs.declared.kinds.Side.{Side as EndSide};
 ghost use Rattle.schedules.specs.declared.stop.Stop.{Stop as Death};
@@ -19,7 +20,7 @@ const USUAL_LIMIT: u32 = 10_000;
 /// The most events that `--limit` and `--die` may give.
 const MOST_EVENTS: u32 = 20_000;
 
-/// The turn of a letter.
+/// Returns the turn of a letter, or `None`.
 fn turn_of(letter: u8) -> Option<Turn>
     ensures turn { IfSome result (λ turn. letter_of turn ≡ letter) }
     ensures none { result ≡ None → (turn : OneTurn) → ¬ (letter_of turn ≡ letter) }
@@ -34,7 +35,7 @@ fn turn_of(letter: u8) -> Option<Turn>
     Some(Turn { side, only_deliver })
 }
 
-/// The turns of letters.
+/// Returns the turns of letters. The fault is `Usage` if a letter is not a turn.
 fn turns_of(alloc: Global, letters: &[u8]) -> Result<Vec<Turn>, WordsFault>
     ensures turns { IfOk result (λ turns. letters.now ≡ map letter_of turns.items) }
     ensures usage { IfErr result (λ fault. fault ≡ WordsFault.Usage → (turns : List OneTurn) → ¬ (letters.now ≡ map letter_of turns)) }
@@ -49,7 +50,7 @@ fn turns_of(alloc: Global, letters: &[u8]) -> Result<Vec<Turn>, WordsFault>
     Ok(turns)
 }
 
-/// The turns of the value of `--schedule`, where it is given.
+/// Returns the turns of the value of `--schedule`, if it is given. The fault is `Usage` if the value is not a word of turns.
 pub fn schedule_of(alloc: Global, word: Option<&str>) -> Result<Option<Vec<Turn>>, WordsFault>
     ensures schedule { IfOk result (λ schedule. IsSchedule (option_map (λ w. w.now) word.entry) (option_map (λ turns. turns.items) schedule)) }
     ensures usage { IfErr result (λ fault. fault ≡ WordsFault.Usage → (schedule : Option (List OneTurn))
@@ -64,7 +65,7 @@ pub fn schedule_of(alloc: Global, word: Option<&str>) -> Result<Option<Vec<Turn>
     Ok(Some(turns_of(alloc, word.as_bytes())?))
 }
 
-/// The most events of a side, by the value of `--limit`.
+/// Returns the most events of a side, by the value of `--limit`. The fault is `Usage` if the value is not from 1 to 20,000.
 pub fn limit_of(text: Option<&str>) -> Result<u32, WordsFault>
     ensures limit { IfOk result (IsLimit (option_map (λ t. t.now) text.entry)) }
     ensures usage { IfErr result (λ fault. (limit : ℕ) → ¬ IsLimit (option_map (λ t. t.now) text.entry) limit) }
@@ -78,7 +79,7 @@ pub fn limit_of(text: Option<&str>) -> Result<u32, WordsFault>
     }
 }
 
-/// The death of a side behind so many events.
+/// Returns the death of a side after this number of events, or `None`.
 fn stop_at(side: Side, number: &str) -> Option<Stop>
     ensures stop { IfSome result (IsStopOf (word_of side ++ (codes ":" ++ number.now))) }
     ensures none { result ≡ None → (n : ℕ) → IsNumber number.now n → ¬ (n ≤ 20000) }
@@ -90,7 +91,7 @@ fn stop_at(side: Side, number: &str) -> Option<Stop>
     Some(Stop { side, after })
 }
 
-/// The death that a text gives.
+/// Returns the death that a text gives, or `None`.
 fn stop_in(text: &str) -> Option<Stop>
     ensures stop { IfSome result (IsStopOf text.now) }
     ensures none { result ≡ None → (stop : Death) → ¬ IsStopOf text.now stop }
@@ -101,7 +102,7 @@ fn stop_in(text: &str) -> Option<Stop>
     stop_at(Side::Child, text.strip_prefix("child:")?)
 }
 
-/// The death of an end, by the value of `--die`.
+/// Returns the death of an end, by the value of `--die`. The fault is `Usage` if the value is not a death.
 pub fn death_of(text: Option<&str>) -> Result<Option<Stop>, WordsFault>
     ensures death { IfOk result (IsDeath (option_map (λ t. t.now) text.entry)) }
     ensures usage { IfErr result (λ fault. (death : Option Death) → ¬ IsDeath (option_map (λ t. t.now) text.entry) death) }

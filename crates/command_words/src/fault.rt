@@ -1,3 +1,4 @@
+//! The fault of words.
 ghost use Rattle.std.specs.Prelude.{◌≡◌, ◌≢◌};
 ghost use Rattle.clap.specs.Words.{kind_of};
 ghost use Rattle.clap.specs.declared.error.kind.ErrorKind.TheVariants as kind;
@@ -8,10 +9,10 @@ use clap::error::ErrorKind;
 use std::alloc::{AllocError, AllocFailed};
 use thiserror::Error;
 
-/// Why words give no command.
+/// Why words do not give a command.
 #[derive(Clone, Copy, Debug, PartialEq, Eq, Error)]
 pub enum WordsFault {
-    /// The words are no command.
+    /// The words are not a command.
     #[error("these words are no command")]
     Usage,
     /// Memory ran out.

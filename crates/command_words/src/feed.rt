@@ -1,3 +1,4 @@
+//! The words of the command that runs one end on a file of bytes.
 ghost use Rattle.std.specs.Prelude.{◌≡◌, ◌∷◌, None, IfErr, IfOk, IfSome, map, option_map, string_bytes};
 ghost use Rattle.ipdl_base.specs.declared.kinds.Side.{Side as EndSide};
 ghost use Rattle.command_words.specs.Command.{CommandOf};
@@ -5,7 +6,7 @@ ghost use Rattle.command_words.specs.Feed.{IsNoFeed, IsSide, feed_word};
 ghost use Rattle.command_words.specs.RunOptions.{word_of};
 
 use crate::WordsFault;
-use crate::command::Command;
+use crate::command::{Command, Sources};
 use crate::courses::limit_of;
 use crate::folders::folders_of;
 use crate::operands::{ScriptOperands, script_operands_of};
@@ -34,7 +35,20 @@ const FEED_OPTIONS: [Choice; 4] = [
     },
 ];
 
-/// The side that a word names.
+/// How the command runs one end on a file of bytes.
+#[derive(Debug, Drop)]
+pub struct FeedOptions {
+    /// The name of the script.
+    pub script: String,
+    /// The name of the file of frames.
+    pub frames: String,
+    /// The side of the end.
+    pub side: Side,
+    /// The most events of the end, from 1 to 20,000.
+    pub limit: u32,
+}
+
+/// Returns the side that a word names, or `None`.
 fn side_in(text: &str) -> Option<Side>
     ensures side { IfSome result (λ side. text.now ≡ word_of side) }
     ensures none { result ≡ None → (side : EndSide) → ¬ (text.now ≡ word_of side) }
@@ -48,7 +62,7 @@ fn side_in(text: &str) -> Option<Side>
     None
 }
 
-/// The side of the end, by the value of `--side`, which has to be given.
+/// Returns the side of the end, by the value of `--side`. The fault is `Usage` if no side is given.
 fn side_of(text: Option<&str>) -> Result<Side, WordsFault>
     ensures side { IfOk result (IsSide (option_map (λ t. t.now) text.entry)) }
     ensures usage { IfErr result (λ fault. (side : EndSide) → ¬ IsSide (option_map (λ t. t.now) text.entry) side) }
@@ -62,7 +76,7 @@ fn side_of(text: Option<&str>) -> Result<Side, WordsFault>
     }
 }
 
-/// The command that runs one end on a file of bytes, where the words behind its first one are such.
+/// Reads the words after `feed`. The fault is `Usage` if they do not fit the command (docs/command_line.md).
 pub fn feed(alloc: Global, words: &[String]) -> Result<Command, WordsFault>
     ensures command { IfOk result (λ command. CommandOf (feed_word ∷ map string_bytes words.now) command) }
     ensures usage { IfErr result (λ fault. fault ≡ WordsFault.Usage → IsNoFeed (feed_word ∷ map string_bytes words.now)) }
@@ -78,13 +92,13 @@ pub fn feed(alloc: Global, words: &[String]) -> Result<Command, WordsFault>
         file,
         input,
     } = operands;
-    Ok(Command::Feed {
-        list,
-        path,
-        limit,
-        side,
-        script,
-        file,
-        frames: input,
-    })
+    Ok(Command::Feed(
+        Sources { list, path, file },
+        FeedOptions {
+            script,
+            frames: input,
+            side,
+            limit,
+        },
+    ))
 }

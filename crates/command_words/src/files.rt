@@ -1,3 +1,4 @@
+//! The files that the words of a command name.
 ghost use Rattle.std.specs.Prelude.{◌≡◌, ◌∷◌, ◌++◌, [], List, ℕ, IfErr, IfOk, OnOk, map, string_bytes};
 ghost use Rattle.command_words.specs.Compile.{AreFiles, AreListed};
 ghost use Rattle.command_words.specs.Listed.{IsKeyed, names_of};
@@ -11,7 +12,7 @@ use std::alloc::{AllocError, Global};
 /// The most files that a command may name.
 const MOST_FILES: usize = 4096;
 
-/// Adds the file that a word names, unless the same word named it already.
+/// Adds the file that a word names, unless an equal word named it before.
 fn note_file<'a>(files: &mut IndexMap<&'a [u8], &'a str>, word: &'a str) -> Result<(), WordsFault>
     requires { IsKeyed files.old }
     ensures keyed { OnOk result (IsKeyed files.new) }
@@ -42,7 +43,7 @@ fn note_file<'a>(files: &mut IndexMap<&'a [u8], &'a str>, word: &'a str) -> Resu
     }
 }
 
-/// The files that words name, each noted once.
+/// Returns the files that words name, each of them once.
 fn noted_files<'a>(
     alloc: Global,
     words: &[&'a str],
@@ -57,7 +58,7 @@ fn noted_files<'a>(
     Ok(files)
 }
 
-/// The names of the files that are noted, in order.
+/// Returns the names of these files, in order.
 fn names_in<'a>(
     alloc: Global,
     files: &IndexMap<&'a [u8], &'a str>,
@@ -67,7 +68,7 @@ fn names_in<'a>(
     files.values().copied().collect(alloc)
 }
 
-/// The names of the files that words name, in the order of their first words.
+/// Returns the names of the files that words name, in the order of their first words.
 fn file_names<'a>(alloc: Global, words: &[&'a str]) -> Result<Vec<&'a str>, WordsFault>
     ensures names { IfOk result (λ names. AreListed (map (λ w. w.now) words.entry.now) (map (λ name. name.now) names.items)) }
     ensures usage { IfErr result (λ fault. fault ≡ WordsFault.Usage → (files : List (List ℕ)) → ¬ AreListed (map (λ w. w.now) words.entry.now) files) }
@@ -76,7 +77,7 @@ fn file_names<'a>(alloc: Global, words: &[&'a str]) -> Result<Vec<&'a str>, Word
     Ok(names_in(alloc, &files)?)
 }
 
-/// The files that the words of a command name, in the order of their first words.
+/// Returns the files that the words of a command name, in the order of their first words.
 pub fn files_of(alloc: Global, words: &[&str]) -> Result<Vec<String>, WordsFault>
     ensures files { IfOk result (λ files. AreFiles (map (λ w. w.now) words.entry.now) (map string_bytes files.items)) }
     ensures usage { IfErr result (λ fault. fault ≡ WordsFault.Usage → (files : List (List ℕ)) → ¬ AreFiles (map (λ w. w.now) words.entry.now) files) }

@@ -1,3 +1,4 @@
+//! The words of the command that runs a generated case.
 ghost use Rattle.std.specs.Prelude.{◌≡◌, ◌∷◌, ℕ, None, IfErr, IfOk, IfSome, map, option_map, string_bytes};
 ghost use Rattle.command_words.specs.Command.{CommandOf};
 ghost use Rattle.command_words.specs.Gen.{IsActors, IsCount, IsNoGen, IsRounds, gen_word};
@@ -23,7 +24,7 @@ const USUAL_ACTORS: u32 = 4;
 /// The most actors.
 const MOST_ACTORS: u32 = 100;
 
-/// The number from 1 to the greatest that a text writes.
+/// Returns the number that a text writes, from 1 to `most`, or `None`.
 fn count_of(text: &str, most: u32) -> Option<u32>
     ensures count { IfSome result (IsCount most text.now) }
     ensures none { result ≡ None → (n : ℕ) → ¬ IsCount most text.now n }
@@ -34,7 +35,7 @@ fn count_of(text: &str, most: u32) -> Option<u32>
     }
 }
 
-/// The number of actors, by the value of `--actors`.
+/// Returns the number of actors, by the value of `--actors`. The fault is `Usage` if the value is not from 1 to 100.
 fn actors_of(text: Option<&str>) -> Result<u32, WordsFault>
     ensures actors { IfOk result (IsActors (option_map (λ t. t.now) text.entry)) }
     ensures usage { IfErr result (λ fault. (actors : ℕ) → ¬ IsActors (option_map (λ t. t.now) text.entry) actors) }
@@ -48,7 +49,7 @@ fn actors_of(text: Option<&str>) -> Result<u32, WordsFault>
     }
 }
 
-/// The number of rounds, where the words are this one.
+/// Reads the operand N, the number of rounds. The fault is `Usage` if the words are not this one, from 1 to 1,000.
 fn rounds_of(words: &[&str]) -> Result<u32, WordsFault>
     ensures rounds { IfOk result (IsRounds (map (λ w. w.now) words.entry.now)) }
     ensures usage { IfErr result (λ fault. (rounds : ℕ) → ¬ IsRounds (map (λ w. w.now) words.entry.now) rounds) }
@@ -62,7 +63,7 @@ fn rounds_of(words: &[&str]) -> Result<u32, WordsFault>
     }
 }
 
-/// The command that runs a generated case, where the words behind its first one are such.
+/// Reads the words after `gen`. The fault is `Usage` if they do not fit the command (docs/command_line.md).
 pub fn generation(alloc: Global, words: &[String]) -> Result<Command, WordsFault>
     ensures command { IfOk result (λ command. CommandOf (gen_word ∷ map string_bytes words.now) command) }
     ensures usage { IfErr result (λ fault. fault ≡ WordsFault.Usage → IsNoGen (gen_word ∷ map string_bytes words.now)) }

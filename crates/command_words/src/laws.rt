@@ -1,6 +1,7 @@
+//! The law of words.
 ghost use Rattle.command_words.specs.Command.{OneCommand};
 
-/// Words are at most one command.
+/// The law of words: they are at most one command.
 pub fn one_command()
     ensures { OneCommand }
 {}

@@ -1,5 +1,5 @@
-//! The command that the words of a command line are, and the words that are none. It knows how words
-//! are read, and nothing of what a command does.
+//! The words of a command line, read as a command. This crate knows how words are read, and nothing of
+//! what a command does.
 #![tactic(auto)]
 
 mod audit;
@@ -21,6 +21,11 @@ mod run;
 mod texts;
 mod waits;
 
-pub use command::{Command, read_words};
+pub use audit::AuditOptions;
+pub use command::{Command, Sources, read_words};
 pub use fault::WordsFault;
+pub use feed::FeedOptions;
+pub use frames::FramesOptions;
 pub use laws::one_command;
+pub use relay::RelayOptions;
+pub use run::RunOptions;

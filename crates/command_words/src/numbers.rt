@@ -1,8 +1,9 @@
+//! Numbers in words.
 ghost use Rattle.std.specs.Prelude.{◌≡◌, ◌≤◌, ◌^◌, ℕ, None, IfSome};
 ghost use Rattle.command_words.specs.RunOptions.{IsNumber};
 
-/// The number that a text writes in decimal digits, leading zeros or not; `None` where it is none, or
-/// 2^32 or more.
+/// Returns the number that a text writes in decimal digits, with or without leading zeros. The result is `None` if the text is
+/// not a number, or if the number is 2^32 or more.
 pub fn number_of(text: &str) -> Option<u32>
     ensures number { IfSome result (IsNumber text.now) }
     ensures none { result ≡ None → (n : ℕ) → IsNumber text.now n → 2 ^ 32 ≤ n }

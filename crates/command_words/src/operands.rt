@@ -1,10 +1,11 @@
+//! The operands of the commands that read an input file.
 ghost use Rattle.std.specs.Prelude.{◌≡◌, List, ℕ, IfErr, IfOk, map, string_bytes};
 ghost use Rattle.command_words.specs.Operands.{AreScriptOperands};
 
 use crate::WordsFault;
 use std::alloc::Global;
 
-/// The words of a command that works on an input file by a script and a program.
+/// The operands of a command that reads an input file by a script and a program.
 #[derive(Drop)]
 pub struct ScriptOperands {
     /// The name of the script.
@@ -15,7 +16,7 @@ pub struct ScriptOperands {
     pub input: String,
 }
 
-/// SCRIPT, FILE and the input file, where the words are these.
+/// Reads the operands SCRIPT, FILE and the input file. The fault is `Usage` if the words are not these three.
 pub fn script_operands_of(alloc: Global, words: &[&str]) -> Result<ScriptOperands, WordsFault>
     ensures operands { IfOk result (λ found. AreScriptOperands (map (λ w. w.now) words.entry.now)
         (string_bytes found.script) (string_bytes found.file) (string_bytes found.input)) }

@@ -1,3 +1,4 @@
+//! The options of a command, and the words by which they are given.
 ghost use Rattle.std.specs.Prelude.{◌≡◌, List, ℕ, false, IfErr, IfOk, OnErr, map, option_map, string_bytes};
 ghost use Rattle.clap.specs.Words.{app_of, rule_of};
 ghost use Rattle.command_words.specs.Forms.{form_of, rule_for};
@@ -17,7 +18,7 @@ pub struct Choice {
     pub letter: Option<char>,
 }
 
-/// What the parser is told of an option.
+/// Returns an option as the parser takes it.
 fn argument_of<'a>(alloc: Global, option: &Choice) -> Arg<'a>
     ensures rule { rule_of result ≡ rule_for (choice_of option.now) }
     ensures local { result.global ≡ false }
@@ -31,7 +32,7 @@ fn argument_of<'a>(alloc: Global, option: &Choice) -> Arg<'a>
     }
 }
 
-/// What the parser is told of a command with these options.
+/// Returns a command with these options as the parser takes it.
 fn form<'a>(alloc: Global, options: &[Choice]) -> Result<Command<'a>, AllocError>
     ensures { IfOk result (λ command. app_of command ≡ form_of (choices_of options.now)) }
 {
@@ -46,8 +47,7 @@ fn form<'a>(alloc: Global, options: &[Choice]) -> Result<Command<'a>, AllocError
     command.arg(others)
 }
 
-/// What the parser finds in the words of a command with these options, or that they are no words of
-/// such a command.
+/// Parses the words of a command with these options. The fault is `Usage` if they are not the words of such a command.
 pub fn read_options<'a>(
     alloc: Global,
     options: &[Choice],

@@ -1,13 +1,15 @@
+//! The words of the command that runs a script.
 ghost use Rattle.std.specs.Prelude.{◌≡◌, ◌∷◌, List, ℕ, IfErr, IfOk, map, option_map, string_bytes};
 ghost use Rattle.command_words.specs.Command.{CommandOf};
 ghost use Rattle.command_words.specs.Run.{AreRunOperands, IsNoRun, run_word};
 
 use crate::WordsFault;
-use crate::command::Command;
+use crate::command::{Command, Sources};
 use crate::courses::{death_of, limit_of, schedule_of};
 use crate::folders::folders_of;
 use crate::options::{Choice, read_options};
 use crate::texts::copy_of;
+use schedules::{Stop, Turn};
 use std::alloc::Global;
 
 /// The options of the command that runs a script.
@@ -34,7 +36,20 @@ const RUN_OPTIONS: [Choice; 5] = [
     },
 ];
 
-/// The words of the commands that run a script.
+/// How the command runs a script.
+#[derive(Debug, Drop)]
+pub struct RunOptions {
+    /// The name of the script.
+    pub script: String,
+    /// The turns of the sides, if they are given.
+    pub schedule: Option<Vec<Turn>>,
+    /// The most events of a side, from 1 to 20,000.
+    pub limit: u32,
+    /// The death of an end, if one is given.
+    pub death: Option<Stop>,
+}
+
+/// The operands of the commands that run a script.
 #[derive(Drop)]
 pub struct RunOperands {
     /// The name of the script.
@@ -43,7 +58,7 @@ pub struct RunOperands {
     pub file: String,
 }
 
-/// SCRIPT and FILE, where the words are these.
+/// Reads the operands SCRIPT and FILE. The fault is `Usage` if the words are not these two.
 pub fn run_operands_of(alloc: Global, words: &[&str]) -> Result<RunOperands, WordsFault>
     ensures operands { IfOk result (λ found. AreRunOperands (map (λ w. w.now) words.entry.now) (string_bytes found.script) (string_bytes found.file)) }
     ensures usage { IfErr result (λ fault. fault ≡ WordsFault.Usage → (script file : List ℕ)
@@ -61,7 +76,7 @@ pub fn run_operands_of(alloc: Global, words: &[&str]) -> Result<RunOperands, Wor
     })
 }
 
-/// The command that runs a script, where the words behind its first one are such.
+/// Reads the words after `run`. The fault is `Usage` if they do not fit the command (docs/command_line.md).
 pub fn run(alloc: Global, words: &[String]) -> Result<Command, WordsFault>
     ensures command { IfOk result (λ command. CommandOf (run_word ∷ map string_bytes words.now) command) }
     ensures usage { IfErr result (λ fault. fault ≡ WordsFault.Usage → IsNoRun (run_word ∷ map string_bytes words.now)) }
@@ -74,13 +89,13 @@ pub fn run(alloc: Global, words: &[String]) -> Result<Command, WordsFault>
     let operands = run_operands_of(alloc, found.get_strs("words").unwrap_or(&[]))?;
     let list = copy_of(alloc, found.get_str("sync-msg-list"))?;
     let RunOperands { script, file } = operands;
-    Ok(Command::Run {
-        list,
-        path,
-        schedule,
-        limit,
-        death,
-        script,
-        file,
-    })
+    Ok(Command::Run(
+        Sources { list, path, file },
+        RunOptions {
+            script,
+            schedule,
+            limit,
+            death,
+        },
+    ))
 }

@@ -1,8 +1,9 @@
+//! Copies of words.
 ghost use Rattle.std.specs.Prelude.{◌≡◌, IfOk, map, option_map, string_bytes};
 
 use std::alloc::{AllocError, Global};
 
-/// The words, as strings of their own.
+/// Returns copies of the words.
 pub fn copies_of(alloc: Global, words: &[&str]) -> Result<Vec<String>, AllocError>
     ensures { IfOk result (λ copies. map string_bytes copies.items ≡ map (λ w. w.now) words.entry.now) }
 {
@@ -13,7 +14,7 @@ pub fn copies_of(alloc: Global, words: &[&str]) -> Result<Vec<String>, AllocErro
     Ok(copies)
 }
 
-/// The word, where there is one, as a string of its own.
+/// Returns a copy of the word, if there is one.
 pub fn copy_of(alloc: Global, word: Option<&str>) -> Result<Option<String>, AllocError>
     ensures { IfOk result (λ copy. option_map string_bytes copy ≡ option_map (λ w. w.now) word.entry) }
 {

@@ -1,4 +1,6 @@
-/// Rows on actors, their values, and what arrives and waits (their form is told in `rows`).
+//! Rows on actors, their values, and arrived items.
+
+/// Rows on actors, their values, and what arrives and waits (`rows` has their form).
 pub const ACTOR_ROWS: &str = "PR.ipdl 1 a tree of actors is deleted
 child new a 2147483647 PR.PK() = sent -1 4 +1
 child new b 4 PK.PK() = sent -2 8 +1
@@ -620,5 +622,5 @@ parent take -3 at 2147483647 PLz.Lz(2)
 parent return -3
 ";
 
-/// How many rows these are.
+/// The number of rows.
 pub const ACTOR_COUNT: &str = "11";

@@ -1,3 +1,4 @@
+//! The words for what the calls of an end return.
 use channel_core::{EndState, Named, Top};
 use ipdl_base::SendRefusal;
 

@@ -1,3 +1,4 @@
+//! An end under test, and its calls as texts.
 ghost use Rattle.ipdl_base.specs.Sound.{IsSound};
 
 use super::answers::{named_word, refusal_word, state_word, top_word};
@@ -16,7 +17,7 @@ use std::collections::VecDeque;
 use std::marker::Model;
 use std::test::Fail;
 
-/// How many requests an end may send, or have delivered.
+/// The number of requests that an end may send, or have delivered.
 const MOST_REQUESTS: u32 = 268435456;
 
 /// An end with the resolvers that its handlers were given, and the packets that come to it.
@@ -46,7 +47,7 @@ impl<'s> Model for TestedEnd<'s> {
     ghost invariant = { λ a. IsSound a.schema.now × (a.end.schema ≡ a.schema.now) };
 }
 
-/// The number before the first blank, and the text behind that.
+/// The number before the first blank, and the text after that.
 fn number_and_rest(text: &str) -> Result<(i32, &str), Fail> {
     let (number, rest) = text.split_once(" ").ok_or("a number alone")?;
     Ok((number.parse::<i32>()?, rest))
@@ -103,7 +104,7 @@ impl<'s> TestedEnd<'s> {
         Ok(self.end.drain(lines)?)
     }
 
-    /// Moves the packets to the other end, and says how many there are.
+    /// Moves the packets to the other end, and returns their number.
     pub fn hand_over(&mut self, other: &mut TestedEnd) -> Result<u32, Fail> {
         let mut count = 0u32;
         while let Some(packet) = self.end.outgoing() {
@@ -113,7 +114,7 @@ impl<'s> TestedEnd<'s> {
         Ok(count)
     }
 
-    /// What an end answers to a call, as text; `None` where memory ran out.
+    /// Returns the result of a call of an end, as text, or `None` if memory ran out.
     pub fn call(&mut self, text: &str) -> Result<Option<String>, Fail> {
         let (word, rest) = text.split_once(" ").unwrap_or((text, ""));
         match word {
@@ -424,7 +425,7 @@ impl<'s> TestedEnd<'s> {
         }
     }
 
-    /// What a look tells.
+    /// Returns the result of a look, as text.
     fn look(&self, word: &str, rest: &str) -> Result<Option<String>, Fail> {
         match word {
             "state" => self.word(state_word(self.end.state())),

@@ -1,7 +1,8 @@
+//! Whether the calls of an end may be tried: what their contracts require.
 ghost use Rattle.std.specs.Prelude.{◌≡◌, true, IsTrue, Some, option_map};
 ghost use Rattle.ipdl_base.specs.Plain.{plain_values};
 ghost use Rattle.ipdl_base.specs.Sound.{IsSound};
-ghost use Rattle.channel_model.specs.Numbers.{sends, is_constructor, is_sync_row, makes_promise, request_row};
+ghost use Rattle.channel_model.specs.Numbers.{is_constructor, is_sync_row, makes_promise, request_row};
 ghost use Rattle.channel_core.specs.Answers.{IsHandedBack};
 ghost use Rattle.channel_core.specs.Steps.{MaySend, MayAnswer, MayReturn};
 ghost use Rattle.channel_model.specs.Answers.{handled_resolver, have_return_types, may_answer};
@@ -12,12 +13,10 @@ ghost use Rattle.channel_model.specs.Typed.{have_types};
 
 use channel_core::{End, EndState, Resolver, RunningHandler, Top};
 use channel_model::decides_types;
-use ipdl_base::{
-    Direction, Kind, MessageRow, Name, ParamRow, Schema, Semantics, Side, Values, returns_of_row,
-};
+use ipdl_base::{Kind, MessageRow, Name, ParamRow, Schema, Semantics, Values, returns_of_row};
 use value_types::{boxes_say_nothing, values_fit};
 
-/// Whether an end may act: it has not died, and no call waits or may go on on top of its stack.
+/// Whether an end may act: it has not died, and no call on top of its stack waits or may resume.
 pub fn may_act(end: &End) -> bool
     ensures { result ≡ may_act end.now.end }
 {
@@ -47,18 +46,6 @@ pub fn have_types(schema: &Schema, params: &[ParamRow], values: &Values) -> bool
     boxes_say_nothing();
     decides_types();
     values_fit(schema, params, values)
-}
-
-/// Whether a side sends what has a direction.
-fn sends(side: Side, direction: Direction) -> bool
-    ensures { result ≡ sends side direction }
-{
-    match (side, direction) {
-        (_, Direction::Both)
-        | (Side::Parent, Direction::Child)
-        | (Side::Child, Direction::Parent) => true,
-        (Side::Parent, Direction::Parent) | (Side::Child, Direction::Child) => false,
-    }
 }
 
 fn is_constructor(kind: Kind) -> bool
@@ -91,7 +78,7 @@ fn may_send_row(
 {
     may_act(end)
         && row.carried
-        && sends(end.side(), row.direction)
+        && end.side().sends(row.direction)
         && have_types(schema, row.params.as_slice(), values)
         && (name.is_none() || is_constructor(row.kind))
 }

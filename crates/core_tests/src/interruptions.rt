@@ -1,3 +1,4 @@
+//! The interruptions of waits, as lines show them, beside the report of what may interrupt.
 ghost use Rattle.ipdl_base.specs.Sound.{IsSound};
 
 use history::{History, What};
@@ -7,8 +8,8 @@ use std::alloc::{AllocError, Global};
 use std::test::Fail;
 use wait_report::{Pair, pairs};
 
-/// A frame of an end, as its lines tell: a call, which waits until it is answered, or a request that
-/// is handled.
+/// A frame of an end, by its lines: a call, which waits until it is answered, or a request that is
+/// handled.
 #[derive(Clone, Copy)]
 struct Frame {
     seq: i32,
@@ -25,7 +26,7 @@ fn answer(stack: &mut Vec<Frame>, seq: i32) {
     }
 }
 
-/// The stack of an end behind one more of its lines.
+/// The stack of an end after one more of its lines.
 fn note(stack: &mut Vec<Frame>, what: &What) -> Result<(), AllocError> {
     match what {
         What::Call(seq, _, _, number, _) => stack.push(Frame {
@@ -64,8 +65,8 @@ fn shown(stack: &[Frame], side: Side, what: &What) -> Option<Pair> {
     })
 }
 
-/// How many lines take a request while a call waits, and how many of them take one that it may not be
-/// interrupted by, by the report of what may.
+/// Counts the lines that take a request while a call waits, and those of them that take one that may
+/// not interrupt it, by the report of what may.
 #[derive(Clone, Copy)]
 pub struct TakeCounts {
     pub taken: u32,
@@ -114,7 +115,8 @@ pub fn take_counts_of(
     Ok(found)
 }
 
-/// How many of these lines of PW take a request while a call waits, and how many of those are unlisted.
+/// Returns the number of these lines of PW that take a request while a call waits, and of those that
+/// are unlisted.
 fn counts_of(alloc: Global, lines: &str) -> Result<(u32, u32), Fail> {
     let schema = schema_of(alloc, "PW.ipdl")?;
     let history = history_of(alloc, &schema, lines)?;
@@ -135,10 +137,10 @@ parent take -1 at 2147483647 PW.Poke()
 parent take -1 at 2147483647 PW.Base()
 ";
     assert_eq!(rt; counts_of(alloc, other)?, (1, 1));
-    let behind = "parent call 1/1 to 2147483647 PW.CallC()
+    let following = "parent call 1/1 to 2147483647 PW.CallC()
 parent deliver reply 1
 parent take -1 at 2147483647 PW.Base()
 ";
-    assert_eq!(rt; counts_of(alloc, behind)?, (0, 0));
+    assert_eq!(rt; counts_of(alloc, following)?, (0, 0));
     Ok(())
 }

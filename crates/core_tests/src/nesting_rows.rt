@@ -1,4 +1,6 @@
-/// Rows on calls inside calls, and ends that close or die under them (their form is told in `rows`).
+//! Rows on calls inside calls.
+
+/// Rows on calls inside calls, and ends that close or die under them (`rows` has their form).
 pub const NESTING_ROWS: &str = "PW.ipdl 0 both call at once
 parent send 2147483647 PW.CallC() = sent 1 0 +1
 child send 2147483647 PW.CallP() = sent -1 0 +1
@@ -523,5 +525,5 @@ child take 32 at 2147483647 PW.CallC()
 child refused TooDeep PW.CallP
 ";
 
-/// How many rows these are.
+/// The number of rows.
 pub const NESTING_COUNT: &str = "5";

@@ -1,4 +1,6 @@
-/// Rows on packets of any bytes, and frames (their form is told in `rows`).
+//! Rows on packets of any bytes.
+
+/// Rows on packets of any bytes, and frames (`rows` has their form).
 pub const PACKET_ROWS: &str = "PQ.ipdl 0 bytes that are no packet of the other end
 parent bytes = bad 0 10 +0
 parent bytes 00000000 = bad 4 10 +0
@@ -109,5 +111,5 @@ child close
   fall 2147483647 NormalShutdown
 ";
 
-/// How many rows these are.
+/// The number of rows.
 pub const PACKET_COUNT: &str = "4";

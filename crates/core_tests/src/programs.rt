@@ -1,15 +1,17 @@
+//! The programs of the rows, and their schemas.
 ghost use Rattle.std.specs.Prelude.{IfOk};
 ghost use Rattle.ipdl_base.specs.Sound.{IsSound};
 
 use history_of_text::schema_of as worked_schema_of;
-use ipdl_base::{MemoryFiles, Schema};
+use ipdl_base::Schema;
+use memory_files::MemoryFiles;
 use schema_of_text::schema_of as schema_of_files;
 use std::alloc::{AllocError, Global};
 use std::test::Fail;
 
 /// The worked programs in which nothing may interrupt a wait, each with two messages more: one that
-/// makes its sender wait, and one that is taken meanwhile. They stand behind the others of their
-/// protocol, so that those keep their numbers. A file has its name behind `@ `, and then its text.
+/// makes its sender wait, and one that is taken meanwhile. They come after the others of their
+/// protocol, so that those keep their numbers. A file has its name after `@ `, and then its text.
 const PROGRAMS: &str = "@ PC.ipdl
 [NestedUpTo=inside_cpow] sync protocol PC {
 parent:

@@ -1,4 +1,6 @@
-/// Rows on resolvers, names, and ends that have closed (their form is told in `rows`).
+//! Rows on resolvers and names.
+
+/// Rows on resolvers, names, and ends that have closed (`rows` has their form).
 pub const RESOLVER_ROWS: &str = "PQ.ipdl 0 an end that has closed sends nothing
 parent send 2147483647 PQ.Get() = sent 1 0 +1
 parent close = done +1
@@ -324,5 +326,5 @@ child take reply -2
   settle -2 rejected ResolverDestroyed
 ";
 
-/// How many rows these are.
+/// The number of rows.
 pub const RESOLVER_COUNT: &str = "6";

@@ -1,3 +1,4 @@
+//! Plays rows of calls between two ends, and compares what they give.
 ghost use Rattle.ipdl_base.specs.Sound.{IsSound};
 
 use super::actor_rows::{ACTOR_COUNT, ACTOR_ROWS};
@@ -142,7 +143,7 @@ fn play(row: CallRow, log: &mut String, taken: &mut u32) -> Result<(), Fail>
     done
 }
 
-/// A text in which each `%N` is so many letters.
+/// A text in which each `%N` is that many letters.
 fn expanded(alloc: Global, text: &str) -> Result<String, Fail> {
     let mut whole = String::new(alloc);
     let mut pieces = text.split("%");
@@ -181,7 +182,7 @@ fn given(alloc: Global, head: &str, calls: &str, taken: &mut u32) -> Result<Stri
     Ok(log)
 }
 
-/// Notes a row that gives something else than it says, and counts what it takes while a call waits.
+/// Notes a row whose results differ from its text, and counts what it takes while a call waits.
 fn check(alloc: Global, row: &str, wrong: &mut String, taken: &mut u32) -> Result<(), Fail> {
     let whole = expanded(alloc, row)?;
     let (head, wanted) = whole
@@ -196,10 +197,10 @@ fn check(alloc: Global, row: &str, wrong: &mut String, taken: &mut u32) -> Resul
     Ok(())
 }
 
-/// Of some rows, those that give something else than they say, and how many there are. A row has the
-/// file of its protocol, the number of the top protocol and what it shows; then calls, each with what
-/// it answers and how many packets it puts; and behind `--` the lines that both ends print. `%N`
-/// stands for N letters, and `====` between two rows.
+/// Returns the rows whose results differ from their texts, and the number of rows. A row has the file
+/// of its protocol, the number of the top protocol and what it shows; then calls, each with its
+/// result and the number of packets that it puts; and after `--` the lines that both ends print. `%N`
+/// is N letters, and `====` is between two rows.
 fn checked(alloc: Global, rows: &str) -> Result<String, Fail> {
     let mut shown = String::new(alloc);
     let mut count = 0u32;
@@ -212,7 +213,7 @@ fn checked(alloc: Global, rows: &str) -> Result<String, Fail> {
     Ok(shown)
 }
 
-/// How many requests the rows of each program take while a call waits.
+/// The number of requests that the rows of each program take while a call waits.
 const TAKEN: &str = "PC.ipdl 2
 PHub.ipdl 4
 PLz.ipdl 1
@@ -222,7 +223,7 @@ PTwo.ipdl 2
 PW.ipdl 64
 ";
 
-/// How many requests the rows of a program take while a call waits.
+/// Returns the number of requests that the rows of a program take while a call waits.
 fn taken_in(alloc: Global, program: &str, wrong: &mut String) -> Result<u32, Fail> {
     let mut taken = 0u32;
     for rows in [RESOLVER_ROWS, ACTOR_ROWS, NESTING_ROWS, PACKET_ROWS] {

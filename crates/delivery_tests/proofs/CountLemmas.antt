@@ -15,7 +15,7 @@ pub counts_one : (before : EndView) (packet : Packet) (a : DeliverAnswer) (after
 counts_one before packet answer.NoMemory after h = same before after h
 counts_one before packet answer.Done after h =
     let s = h.1.is_step in
-    let k = ap (λ (x : EndView). x.end.delivered) s.is_behind in
+    let k = ap (λ (x : EndView). x.end.delivered) s.is_after in
     let grows = (counts_grow before.schema before.end (h.1.carries ∷ []) event.deliver s.output s.is_step).0.delivered.1 in
     omega (arith, k, grows)
 counts_one before packet (answer.Bad offset rule) after h = same before after h.1

@@ -1,8 +1,9 @@
+//! Comparisons, and bytes as texts.
 use std::alloc::Global;
 use std::process::Abort;
 use std::test::Fail;
 
-/// Compares what is found with what is wanted, and names the row where they differ.
+/// Compares the result with the expected one, and names the row if they differ.
 pub fn check(rt: &impl Abort, row: &str, found: &str, wanted: &str) {
     assert_eq!(rt; found, wanted, "{row}");
 }

@@ -1,3 +1,4 @@
+//! Tests of what an end returns for packets of any bytes.
 ghost use Rattle.std.specs.Prelude.{◌≡◌, ◌+◌, ◌<◌, ◌≤◌};
 ghost use Rattle.ipdl_base.specs.Sound.{IsSound};
 
@@ -10,7 +11,7 @@ use std::alloc::Global;
 use std::test::Fail;
 
 /// Rows `NAME: PACKETS: ANSWERS; LINES; SENT`: the packets that are delivered to the parent's end, one
-/// after another, `-` for no bytes; what each is answered; the lines of the end; and what it sends.
+/// after another, `-` for no bytes; the result of each; the lines of the end; and what it sends.
 const DELIVERIES: &str =
     "a request: 4950443204000000ffffff7f0200010020000000ffffffff0000000005000000: Done; deliver -1;
 two that are alike: 4950443204000000ffffff7f0200010020000000ffffffff0000000005000000 4950443204000000ffffff7f0200010020000000feffffff0000000006000000: Done Done; deliver -1, deliver -2, replaced -1, answer -1; 4950443204000000ffffff7f0300010018000000ffffffff0000000005000000
@@ -50,7 +51,7 @@ fn answer_text(alloc: Global, answer: &DeliverAnswer) -> Result<String, Fail> {
     }
 }
 
-/// Has a packet delivered, where the end is open.
+/// Delivers a packet, if the end is open.
 fn deliver_word(alloc: Global, end: &mut End<'_>, word: &str) -> Result<String, Fail>
     requires { end.old.end.delivered < 268435456 }
     ensures { end.new.end.delivered ≤ end.old.end.delivered + 1 }
@@ -75,7 +76,7 @@ fn line_text(alloc: Global, what: &What) -> Result<String, Fail> {
     }
 }
 
-/// Has up to three packets delivered, one after another.
+/// Delivers up to three packets, one after another.
 fn deliver_words(alloc: Global, end: &mut End<'_>, words: &str) -> Result<String, Fail>
     requires { end.old.end.delivered ≡ 0 }
 {

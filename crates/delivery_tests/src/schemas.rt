@@ -1,7 +1,9 @@
+//! The program of the tests, and its schema.
 ghost use Rattle.std.specs.Prelude.{IfOk};
 ghost use Rattle.ipdl_base.specs.Sound.{IsSound};
 
-use ipdl_base::{MemoryFiles, Schema};
+use ipdl_base::Schema;
+use memory_files::MemoryFiles;
 use schema_of_text::schema_of;
 use std::alloc::Global;
 use std::test::Fail;

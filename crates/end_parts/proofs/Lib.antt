@@ -5,14 +5,7 @@ pub mod WaitLemmas
 pub mod ReleaseLemmas
 pub mod PromiseLemmas
 pub mod RequestLemmas
-pub mod RejectionLemmas
-pub mod FallLemmas
-pub mod FailLemmas
 pub mod NameLemmas
 pub mod ReadLemmas
 pub mod ReceiveLemmas
 pub mod LivingLemmas
-pub mod ReturnLemmas
-pub mod RenamingLemmas
-pub mod DeliveryRefusalLemmas
-pub mod PlanLemmas

@@ -22,11 +22,11 @@ use Rattle.end_parts.specs.PromiseRequests.{entries_of, oldest_of, with_oldest_r
 abbrev with_request : Promise → RequestKey → PromiseEntry
 with_request p r = record { promise = plain_promise p; number = r.number }
 
--- the first entry that passes, or what is found behind
+-- the first entry that passes, or what is found after
 seq_or : (b : Bool) (p : Promise) (n : RequestKey) (there : Option PromiseEntry) (here : Option Promise) → option_map (λ (entry : PromiseEntry). entry.promise.seq) there ≡ option_map (λ (q : Promise). q.seq) here
     → option_map (λ (entry : PromiseEntry). entry.promise.seq) (cond b (Some (with_request p n)) there) ≡ option_map (λ (q : Promise). q.seq) (cond b (Some p) here)
-seq_or true p n there here behind = refl
-seq_or false p n there here behind = behind
+seq_or true p n there here following = refl
+seq_or false p n there here following = following
 
 pub oldest-entries : (test : Promise → Bool) → ((p : Promise) → test (plain_promise p) ≡ test p) → (ps : List Promise) (ns : List RequestKey) → length ns ≡ length ps → oldest_of test (entries_of ps ns) ≡ oldest test ps
 oldest-entries test blind [] ns e = refl
@@ -43,7 +43,7 @@ pub apart : (seq : ℤ) (ps : List Promise) → ((k : ℕ) (d : Promise) → k <
 apart seq [] h = tt
 apart seq (p ∷ ps) h = (h 0 p (omega arith), apart seq ps (λ k d l. h (suc k) d (omega arith)))
 
--- the first of distinct promises is apart from those behind it
+-- the first of distinct promises is apart from those after it
 pub first_apart : (p : Promise) (ps : List Promise) → HaveDistinctNumbers (p ∷ ps) → AreApart p.seq ps
 first_apart p ps h = apart p.seq ps (λ k d l e. h 0 (suc k) d (omega arith) (omega arith) (sym e))
 
@@ -76,10 +76,10 @@ found_apart : (seq : ℤ) (test : Promise → Bool) (ps : List Promise) (n : ℤ
 found_apart seq test [] n h e = cc
 found_apart seq test (p ∷ ps) n h e = found_or seq test p (test p) (find test ps) n h.0 (found_apart seq test ps n h.1) e
 
--- the rest of the promises when nobody, or one behind the first, is rejected
-behind_first : (reason : Reason) (p : Promise) (ps : List Promise) (found : Option ℤ) → ((n : ℤ) → found ≡ Some n → n ≢ p.seq) → with_rejected (p ∷ ps) found reason ≡ p ∷ with_rejected ps found reason
-behind_first reason p ps None h = refl
-behind_first reason p ps (Some n) h =
+-- the rest of the promises when nobody, or one after the first, is rejected
+after_first : (reason : Reason) (p : Promise) (ps : List Promise) (found : Option ℤ) → ((n : ℤ) → found ≡ Some n → n ≢ p.seq) → with_rejected (p ∷ ps) found reason ≡ p ∷ with_rejected ps found reason
+after_first reason p ps None h = refl
+after_first reason p ps (Some n) h =
     ap (λ (q : Promise). q ∷ with_settled ps n (Rejected reason)) (settled_other n (Rejected reason) p (λ e. h n refl (sym e)))
 
 -- the oldest of the entries is rejected as the oldest of the promises is
@@ -92,7 +92,7 @@ rejected_at test reason p ps n ns true e pends distinct rest =
     ap (λ (q : Promise). with_request q n ∷ entries_of (with_settled ps p.seq (Rejected reason)) ns) first
     ∙ ap (λ (qs : List Promise). rejected_entry reason (with_request p n) ∷ entries_of qs ns) others
 rejected_at test reason p ps n ns false e pends distinct rest =
-    let same : with_rejected (p ∷ ps) (oldest test ps) reason ≡ p ∷ with_rejected ps (oldest test ps) reason = behind_first reason p ps (oldest test ps) (λ m found. found_apart p.seq test ps m (first_apart p ps distinct) found) in
+    let same : with_rejected (p ∷ ps) (oldest test ps) reason ≡ p ∷ with_rejected ps (oldest test ps) reason = after_first reason p ps (oldest test ps) (λ m found. found_apart p.seq test ps m (first_apart p ps distinct) found) in
     ap (λ (qs : List Promise). entries_of qs (n ∷ ns)) same ∙ ap (λ (es : List PromiseEntry). with_request p n ∷ es) rest
 
 pub rejected-entries : (test : Promise → Bool) → ((p : Promise) → test (plain_promise p) ≡ test p) → ((p : Promise) → test p ≡ true → is_pending p ≡ true)

@@ -5,8 +5,8 @@ use Rattle.std.proofs.lemmas.Bool.Decides.{nat_tests}
 use Rattle.ipdl_base.specs.declared.message.Message.{Message}
 use Rattle.ipdl_base.specs.declared.schema.Schema.{Schema}
 use Rattle.value_types.specs.declared.layout.TheConstants.{NEW}
-use Rattle.value_codec.specs.declared.decoding.Decoded.{Decoded}
-use Rattle.value_codec.specs.declared.decoding.Decoded.TheVariants as decoded
+use Rattle.value_codec.specs.declared.decoding.DecodeResult.{DecodeResult}
+use Rattle.value_codec.specs.declared.decoding.DecodeResult.TheVariants as decoded
 use Rattle.value_codec.specs.Decoding.{begins}
 use Rattle.channel_model.specs.Ends as model
 use Rattle.end_parts.specs.declared.packet.Packet.{Packet}
@@ -17,7 +17,7 @@ pub read-broken : (schema : Schema) (packet : Packet) → packet ≡ Broken → 
 unfolding packet_read
 read-broken schema packet e = rw e refl
 
-read-as : (schema : Schema) (packet : Packet) (bytes : List ℕ) (d : Decoded) → packet ≡ Bytes bytes → begins NEW schema bytes ≡ d → packet_read schema packet ≡ content_decoded (length bytes) d
+read-as : (schema : Schema) (packet : Packet) (bytes : List ℕ) (d : DecodeResult) → packet ≡ Bytes bytes → begins NEW schema bytes ≡ d → packet_read schema packet ≡ content_decoded (length bytes) d
 unfolding packet_read
 read-as schema packet bytes d e b = rw e (ap (content_decoded (length bytes)) b)
 

@@ -91,12 +91,12 @@ pub values_more : (r : RequestKey) (es : List (ℤ × RequestKey)) → values_of
 values_more r [] = refl
 values_more r (e ∷ es) = ap (λ (rs : List RequestKey). e.1 ∷ rs) (values_more r es)
 
--- one request more stands at its number
+-- one more request is at its number
 pub by_number_more : (r : RequestKey) (es : List (ℤ × RequestKey)) → AreByNumber es → AreByNumber (es ++ (r.seq, r) ∷ [])
 by_number_more r [] h = (refl, tt)
 by_number_more r (e ∷ es) h = (h.0, by_number_more r es h.1)
 
--- none stands at a number that no promise has
+-- no request is at a number that no promise has
 pub none_at : (seq : ℤ) (ps : List Promise) (es : List (ℤ × RequestKey)) → AreRequestsOf ps (values_of es) → AreByNumber es → AreApart seq ps → lookup (int_eq seq) es ≡ None
 none_at seq [] [] are by h = refl
 none_at seq [] (e ∷ es) are by h = absurd are

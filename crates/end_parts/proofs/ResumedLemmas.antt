@@ -6,8 +6,8 @@ use Rattle.nesting_core.specs.declared.frame.Answer.{Answer}
 use Rattle.nesting_core.specs.declared.frame.StackFrame.{StackFrame}
 use Rattle.nesting_core.specs.declared.frame.StackFrame.TheVariants.{Dispatch, Wait}
 use Rattle.nesting_core.specs.declared.frame.Head.{Head}
-use Rattle.nesting_core.specs.declared.frame.Popped.{Popped}
-use Rattle.nesting_core.specs.declared.frame.Popped.TheVariants as popped
+use Rattle.nesting_core.specs.declared.frame.PoppedFrame.{PoppedFrame}
+use Rattle.nesting_core.specs.declared.frame.PoppedFrame.TheVariants as popped
 use Rattle.nesting_core.specs.declared.frame.StackTop.TheVariants as top
 use Rattle.nesting_core.specs.Top.{top_of, popped_of, after_pop}
 use Rattle.end_parts.specs.declared.stack_entries.EntryDetail.{EntryDetail}
@@ -31,7 +31,7 @@ off_with h a below items rest (Some b) r are e is =
     let there : AreDetails (Wait h (Some a) ∷ below) (b ∷ reverse rest) = subst (AreDetails (Wait h (Some a) ∷ below)) back are in
     subst (λ bs. IsTakenOff (entries_of (Wait h (Some a) ∷ below) bs) (Some r) (entries_of below (reverse rest))) (sym back) (off_at h a below b (reverse rest) r there is)
 
-pub off : (frames after : List StackFrame) (items rest : List EntryDetail) (came : Option Popped) (b : Option EntryDetail) (r : ResumedCall) (head : Head)
+pub off : (frames after : List StackFrame) (items rest : List EntryDetail) (came : Option PoppedFrame) (b : Option EntryDetail) (r : ResumedCall) (head : Head)
     → AreDetails frames (reverse items) → top_of frames ≡ top.Answered head → came ≡ popped_of frames → after ≡ after_pop frames → items ≡ rest ++ option_to_list b → IsResumed came b r
     → IsTakenOff (entries_of frames (reverse items)) (Some r) (entries_of after (reverse rest))
 off [] after items rest came b r head are t p l e is = cc

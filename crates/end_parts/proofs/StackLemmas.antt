@@ -17,7 +17,7 @@ use Rattle.nesting_core.proofs.PlainLemmas.{awaited_level-plain, has_wait-plain,
 use Rattle.channel_model.specs.Ends.{StackEntry}
 use Rattle.channel_model.specs.Takes.{takes_under}
 use Rattle.end_parts.specs.declared.stack_entries.EntryDetail.{EntryDetail}
-use Rattle.end_parts.specs.StackDetails.{frames_in, entries_of, holding_by, AreDetails}
+use Rattle.end_parts.specs.StackDetails.{frames_in, entries_of, deferral_context_by, AreDetails}
 
 -- the frames of entries are those of the stack
 pub frames-entries : (frames : List StackFrame) (details : List EntryDetail) → AreDetails frames details → frames_in (entries_of frames details) ≡ map plain_frame frames
@@ -59,9 +59,9 @@ length-items frames items entries are is = sym (length-reverse items) ∙ length
 pub top_of-entries : (frames : List StackFrame) (details : List EntryDetail) → AreDetails frames details → top_of (frames_in (entries_of frames details)) ≡ top_of frames
 top_of-entries frames details h = ap top_of (frames-entries frames details h) ∙ top_of-plain frames
 
-pub holding-entries : (side : Side) (frames : List StackFrame) (details : List EntryDetail) → AreDetails frames details → holding_by side (frames_in (entries_of frames details)) ≡ holding_by side frames
+pub holding-entries : (side : Side) (frames : List StackFrame) (details : List EntryDetail) → AreDetails frames details → deferral_context_by side (frames_in (entries_of frames details)) ≡ deferral_context_by side frames
 holding-entries side frames details h =
-    ap (holding_by side) (frames-entries frames details h)
+    ap (deferral_context_by side) (frames-entries frames details h)
     ∙ ap (λ (level : Option Level). record { side = side; level = level; transaction = unwrap_or (inner_transaction (map plain_frame frames)) (pos 0) }) (awaited_level-plain frames)
     ∙ ap (λ (t : Option ℤ). record { side = side; level = awaited_level frames; transaction = unwrap_or t (pos 0) }) (inner_transaction-plain frames)
 

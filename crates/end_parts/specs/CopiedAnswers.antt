@@ -15,6 +15,6 @@ values_of (answer.Fault reason) = None
 abbrev pub IsCopyOf : Answer → Option Values → Type 0
 IsCopyOf a copy = option_map plain_values copy ≡ values_of a
 
--- an answer stands with its copy
+-- an answer has its copy
 abbrev pub IsCopied : CopiedAnswer → Type 0
 IsCopied given = IsCopyOf given.answer given.copy

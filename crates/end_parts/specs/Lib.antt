@@ -9,17 +9,4 @@ pub mod StackDetails
 pub mod Resumed
 pub mod NameContents
 pub mod NamesView
-pub mod Rejections
-pub mod Falls
-pub mod FailedWaits
-pub mod Refusals
-pub mod DeliveryRefusals
-pub mod Arrivals
-pub mod SentRequests
 pub mod PacketReading
-pub mod AnswerPackets
-pub mod TakenItems
-pub mod Renamings
-pub mod BuiltActors
-pub mod RequestPlans
-pub mod Deletions

@@ -4,7 +4,7 @@ use Rattle.ipdl_base.specs.declared.line.Line.{Line}
 use Rattle.history.specs.HistoryView.{HistoryView}
 use Rattle.end_parts.specs.PlainLines.{plain_line}
 
--- The lines stand last in the history, up to where their boxes lie, and take no more of its room than they are.
+-- The lines are last in the history, up to where their boxes lie, and take no more of its room than their number.
 pub record HasMoved (lines : List Line) (before after : HistoryView) : Type 0 where
   pub moved : List Line
   pub are : map plain_line moved ≡ lines

@@ -4,7 +4,7 @@ use Rattle.ipdl_base.specs.declared.line.Line.{Line}
 use Rattle.ipdl_base.specs.declared.message.Message.{Message}
 use Rattle.end_parts.specs.declared.packet.Packet.{Packet}
 
--- The lines, the packets and the outbox, oldest first; for how many more of each there is room; how many lines are owed
+-- The lines, the packets and the outbox, oldest first; the room for more of each; the number of lines that are owed
 -- yet; the packets that the outbox will be; and the packet of the goodbye, until that is put.
 pub record OutputView : Type 0 where
   pub lines : List Line
@@ -29,6 +29,6 @@ with_lazy out m packet = record out { outbox = out.outbox ++ m ∷ []; outbox_sp
 abbrev pub without_outbox : OutputView → OutputView
 without_outbox out = record out { outbox = []; outbox_spare = out.outbox_spare + length out.outbox; frames = [] }
 
--- a packet more, behind the outbox
+-- a packet more, after the outbox
 abbrev pub with_packet : OutputView → Packet → OutputView
 with_packet out packet = record (without_outbox out) { packets = out.packets ++ out.frames ++ packet ∷ []; packet_spare = out.packet_spare - (length out.frames + 1) }

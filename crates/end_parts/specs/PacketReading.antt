@@ -1,11 +1,12 @@
 -- What a packet is, for any bytes.
 use Rattle.std.specs.Prelude.{◌≡◌, ℕ, ◌==◌, if◌then◌else◌, length}
+use Rattle.ipdl_base.specs.declared.finding.TheConstants.Rule as rules
 use Rattle.ipdl_base.specs.declared.schema.Schema.{Schema}
 use Rattle.ipdl_base.specs.Plain.{plain_message}
 use Rattle.value_types.specs.declared.layout.TheConstants.{NEW}
 use Rattle.value_types.specs.Fits.{Fits}
-use Rattle.value_codec.specs.declared.decoding.Decoded.{Decoded}
-use Rattle.value_codec.specs.declared.decoding.Decoded.TheVariants as decoded
+use Rattle.value_codec.specs.declared.decoding.DecodeResult.{DecodeResult}
+use Rattle.value_codec.specs.declared.decoding.DecodeResult.TheVariants as decoded
 use Rattle.value_codec.specs.Decoding.{begins}
 use Rattle.channel_model.specs.Ends as model
 use Rattle.end_parts.specs.declared.packet.Packet.{Packet}
@@ -18,12 +19,12 @@ pub data PacketContent : Type 0 where
   carried : model.Packet → PacketContent
   faulty : ℕ → ℕ → PacketContent
 
--- what so many bytes are that begin so: they are to be one whole frame, and no byte more
-abbrev pub content_decoded : ℕ → Decoded → PacketContent
-content_decoded size (decoded.Frame m n) = if n == size then carried (model.message m) else faulty n 10
-content_decoded size (decoded.Short n) = faulty size 10
+-- what that many bytes are that begin so: they must be one whole frame, and no byte more
+abbrev pub content_decoded : ℕ → DecodeResult → PacketContent
+content_decoded size (decoded.Frame m n) = if n == size then carried (model.message m) else faulty n rules.NOT_ONE_FRAME.number
+content_decoded size (decoded.Short n) = faulty size rules.NOT_ONE_FRAME.number
 content_decoded size (decoded.Bad offset rule) = faulty offset rule
-content_decoded size decoded.NoMemory = faulty 0 10
+content_decoded size decoded.NoMemory = faulty 0 rules.NOT_ONE_FRAME.number
 
 -- what a packet is
 unfoldable pub packet_read : Schema → Packet → PacketContent

@@ -4,7 +4,7 @@ use Rattle.ipdl_base.specs.declared.line.What.{What}
 use Rattle.ipdl_base.specs.declared.line.What.TheVariants as what
 use Rattle.ipdl_base.specs.Plain.{plain_values}
 
--- what a line says, with its boxes there
+-- the content of a line, with its boxes there
 abbrev pub plain_what : What → What
 plain_what (what.Send n route number vs) = what.Send n route number (plain_values vs)
 plain_what (what.Call n transaction route number vs) = what.Call n transaction route number (plain_values vs)

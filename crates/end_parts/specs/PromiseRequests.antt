@@ -28,12 +28,12 @@ AreRequestsOf [] (request ∷ requests) = ⊥
 AreRequestsOf (promise ∷ promises) [] = ⊥
 AreRequestsOf (promise ∷ promises) (request ∷ requests) = IsRequestOf promise request × AreRequestsOf promises requests
 
--- each request stands at its number
+-- each request is at its number
 abbrev pub AreByNumber : List (ℤ × RequestKey) → Type 0
 AreByNumber [] = Unit {0}
 AreByNumber (entry ∷ entries) = (entry.0 ≡ entry.1.seq) × AreByNumber entries
 
--- how many pend
+-- the number of pending promises
 abbrev pub pending_in : List PromiseEntry → ℕ
 pending_in [] = 0
 pending_in (entry ∷ entries) = if is_pending entry.promise then suc (pending_in entries) else pending_in entries

@@ -28,7 +28,7 @@ line_of_body seq Goodbye = what.Reject seq
 abbrev pub line_of_reply : Message → What
 line_of_reply m = line_of_body m.seq m.body
 
--- what the answer by a resolver repeats, if a name holds one
+-- what the answer by the resolver of a name repeats, if the name has one
 abbrev pub answered_by : model.NameContent → Option model_of.AnsweredRequest
 answered_by (model.actor id) = None
 answered_by (model.resolver r) = Some (model_of.resolver_answered r)

@@ -10,7 +10,7 @@ use Rattle.nesting_core.specs.declared.frame.StackFrame.TheVariants.{Dispatch, W
 use Rattle.nesting_core.specs.Deferral.{awaited_level, inner_transaction}
 use Rattle.nesting_core.specs.Frames.{head_of, is_unanswered, is_dispatch}
 use Rattle.nesting_core.specs.Plain.{plain_frame}
-use Rattle.pending_queue.specs.declared.holding.Holding.{Holding}
+use Rattle.pending_queue.specs.declared.deferral_context.DeferralContext.{DeferralContext}
 use Rattle.channel_model.specs.Ends.{Resolver, StackEntry}
 use Rattle.end_parts.specs.CopiedAnswers.{values_of}
 use Rattle.end_parts.specs.declared.stack_entries.DispatchEntry.{DispatchEntry}
@@ -72,5 +72,5 @@ with_copy copy [] = []
 with_copy copy (detail ∷ details) = if detail.is_unanswered then record detail { is_unanswered = false; answer_copy = copy } ∷ details else detail ∷ with_copy copy details
 
 -- what an end of this side with these frames awaits
-abbrev pub holding_by : Side → List StackFrame → Holding
-holding_by side frames = record { side = side; level = awaited_level frames; transaction = unwrap_or (inner_transaction frames) (pos 0) }
+abbrev pub deferral_context_by : Side → List StackFrame → DeferralContext
+deferral_context_by side frames = record { side = side; level = awaited_level frames; transaction = unwrap_or (inner_transaction frames) (pos 0) }

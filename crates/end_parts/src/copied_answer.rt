@@ -1,4 +1,4 @@
-//! Answers with a second copy of their values, and as their senders receive them.
+//! Answers with a second copy of their values, and answers as their senders receive them.
 ghost use Rattle.std.specs.Prelude.{◌≡◌};
 ghost use Rattle.ipdl_base.specs.Plain.{plain_values};
 ghost use Rattle.nesting_core.specs.Plain.{plain_answer};
@@ -12,15 +12,16 @@ use actor_tree::Tree;
 use ipdl_base::{MessageRow, Reason, Schema, Values, What, returns_of_row};
 use nesting_core::Answer;
 
-/// An answer with a second copy of its values: one of them goes to the sender, and one into a line.
+/// An answer with a second copy of its values: one copy goes to the sender, the other into a line.
 #[derive(Drop)]
 pub struct CopiedAnswer {
     pub answer: Answer,
     pub copy: Option<Values>,
 }
 
-/// The answer to a request of a message as its sender receives it: where an actor of its values is
-/// missing, the fault ActorDestroyed; else with null for its dead actors. It takes no memory.
+/// Returns the answer to a request of a message as its sender receives it: the fault ActorDestroyed
+/// if an actor of its values is missing, and otherwise the values with null for dead actors. Takes
+/// no memory.
 pub fn receive_answer(
     schema: &Schema,
     tree: &Tree,
@@ -42,7 +43,7 @@ pub fn receive_answer(
     }
 }
 
-// Receives values of which there is a second copy.
+// Receives values that have a second copy.
 fn receive_values(
     schema: &Schema,
     tree: &Tree,
@@ -73,7 +74,7 @@ fn receive_values(
     }
 }
 
-/// The line of a call that goes on with an answer, of which this is the second copy.
+/// Returns the line of a call that resumes with an answer, whose second copy is `copy`.
 pub fn resume_line(seq: i32, answer: &Answer, copy: Option<Values>) -> What
     requires { IsCopyOf answer.now copy }
     ensures { plain_what result ≡ resume_line seq (plain_answer answer.now) }

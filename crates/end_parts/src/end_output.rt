@@ -1,3 +1,4 @@
+//! What an end has made and its owner has not fetched: lines, packets, and the outbox.
 ghost use Rattle.std.specs.Prelude.{◌≡◌, ◌+◌, ◌-◌, ◌<◌, ◌≤◌, true, if◌then◌else◌, [], ◌∷◌, ◌++◌, length, map, None, IsOk, IsSome, MatchOption, IfOk, OnOk, OnErr};
 ghost use Rattle.std.specs.VecDeque.{deque_capacity};
 ghost use Rattle.ipdl_base.specs.Plain.{plain_message};
@@ -13,17 +14,17 @@ use std::collections::VecDeque;
 use std::marker::Model;
 use std::mem;
 
-/// A lazy request that waits in the outbox, with its frame.
+/// A lazy request in the outbox, with its frame.
 #[derive(Drop)]
 struct LazyRequest {
     message: Message,
     frame: Items<u8>,
 }
 
-/// What an end has made and its owner has not fetched, its lines and its packets; and its outbox.
-/// Contracts see beside these how many more lines and packets there is room for, how many lines the
-/// end owes, whatever memory there is, and the packet of its goodbye. Only `new` and the reserves
-/// take memory.
+/// The lines and packets that an end has made and its owner has not fetched, and the outbox of the
+/// end. Contracts also see the room for more lines and packets, the number of lines that the end
+/// owes whatever memory there is, and the packet of its goodbye. Only `new` and the reserves take
+/// memory.
 #[derive(Drop)]
 pub struct EndOutput {
     lines: VecDeque<Line>,
@@ -62,7 +63,8 @@ impl Model for EndOutput {
 }
 
 impl EndOutput {
-    /// Nothing, with room for the lines that an end with one actor owes, and for one packet.
+    /// Returns an empty output, with room for the lines that an end with one actor owes, and for
+    /// one packet.
     pub fn new(alloc: Global, goodbye: Items<u8>) -> Result<EndOutput, AllocError>
         ensures made { IfOk result (λ out. out ≡ record {
           lines = [];
@@ -91,15 +93,15 @@ impl EndOutput {
         })
     }
 
-    /// How many more lines there is room for.
+    /// Returns the number of lines that there is room for.
     pub fn line_spare(&self) -> usize
         ensures { result ≡ self.now.line_spare }
     {
         self.lines.capacity() - self.lines.len()
     }
 
-    /// Makes room for so many lines beside those that are owed, and for so many packets beside the
-    /// outbox and one more.
+    /// Makes room for `lines` lines beside those that are owed, and for `packets` packets beside
+    /// the outbox and one more.
     pub fn reserve(&mut self, lines: usize, packets: usize) -> Result<(), AllocError>
         ensures same { self.new ≡ record self.old { line_spare = self.new.line_spare; packet_spare = self.new.packet_spare } }
         ensures more_lines { self.old.line_spare ≤ self.new.line_spare }
@@ -120,14 +122,14 @@ impl EndOutput {
         self.packets.reserve(packets)
     }
 
-    /// How many requests wait in the outbox.
+    /// Returns the number of requests in the outbox.
     pub fn waiting(&self) -> usize
         ensures { result ≡ length self.now.outbox }
     {
         self.outbox.len()
     }
 
-    /// Owes so many lines more.
+    /// Adds `n` to the lines that are owed.
     pub fn owe(&mut self, n: usize)
         requires { self.old.lines_owed + n ≤ self.old.line_spare }
         ensures { self.new ≡ record self.old { lines_owed = self.old.lines_owed + n } }
@@ -135,14 +137,14 @@ impl EndOutput {
         self.lines_owed += n;
     }
 
-    /// Owes so many lines less.
+    /// Subtracts `n` from the lines that are owed.
     pub fn pay(&mut self, n: usize)
         ensures { self.new ≡ record self.old { lines_owed = self.old.lines_owed - n } }
     {
         self.lines_owed = self.lines_owed.saturating_sub(n);
     }
 
-    /// Puts a line last.
+    /// Appends a line.
     pub fn push_line(&mut self, line: Line)
         requires { 0 < self.old.line_spare }
         ensures { self.new ≡ with_line self.old (plain_line line) }
@@ -150,7 +152,7 @@ impl EndOutput {
         self.lines.push_back_reserved(line);
     }
 
-    /// Makes room for one lazy request more. The only error is want of memory.
+    /// Makes room for one more lazy request. Fails only if memory runs out.
     pub fn reserve_lazy(&mut self) -> Result<(), AllocError>
         ensures same { self.new ≡ record self.old { outbox_spare = self.new.outbox_spare } }
         ensures ok { OnOk result (0 < self.new.outbox_spare) }
@@ -158,7 +160,7 @@ impl EndOutput {
         self.outbox.reserve(1)
     }
 
-    /// Puts a lazy request last into the outbox.
+    /// Appends a lazy request to the outbox.
     pub fn push_lazy(&mut self, message: Message, frame: Items<u8>)
         requires { 0 < self.old.outbox_spare }
         ensures { self.new ≡ with_lazy self.old (plain_message message) (Packet.Bytes frame) }
@@ -167,14 +169,14 @@ impl EndOutput {
             .push_back_reserved(LazyRequest { message, frame });
     }
 
-    /// Drops what waits in the outbox.
+    /// Empties the outbox.
     pub fn drop_outbox(&mut self)
         ensures { self.new ≡ without_outbox self.old }
     {
         self.outbox.clear();
     }
 
-    /// Moves what waits in the outbox to the packets.
+    /// Moves the outbox to the packets.
     pub fn flush(&mut self)
         requires { length self.old.frames ≤ self.old.packet_spare }
         ensures { self.new ≡ record (without_outbox self.old) {
@@ -185,7 +187,7 @@ impl EndOutput {
         move_frames(&mut self.outbox, &mut self.packets);
     }
 
-    /// Puts a packet behind all that waits in the outbox.
+    /// Appends a packet, after all that is in the outbox.
     pub fn put(&mut self, packet: Packet)
         requires { length self.old.frames + 1 ≤ self.old.packet_spare }
         ensures { self.new ≡ with_packet self.old packet }
@@ -194,7 +196,7 @@ impl EndOutput {
         self.packets.push_back_reserved(packet);
     }
 
-    /// Puts the mark of a death behind all that waits in the outbox, if the end is open.
+    /// Appends the mark of a death if the end is open, after all that is in the outbox.
     pub fn put_mark(&mut self, is_open: bool)
         requires { is_open ≡ true → length self.old.frames + 1 ≤ self.old.packet_spare }
         ensures { self.new ≡ (if is_open then with_packet self.old Packet.Broken else self.old) }
@@ -204,7 +206,7 @@ impl EndOutput {
         }
     }
 
-    /// Puts the goodbye behind all that waits in the outbox.
+    /// Appends the goodbye, after all that is in the outbox.
     pub fn put_goodbye(&mut self)
         requires room { length self.old.frames + 1 ≤ self.old.packet_spare }
         requires there { IsSome self.old.goodbye }
@@ -217,8 +219,8 @@ impl EndOutput {
         }
     }
 
-    /// Moves the lines to a history. Want of memory moves none, and does not come where the history
-    /// has room for them.
+    /// Moves the lines to a history. If memory runs out, no line is moved; that cannot happen if
+    /// the history has room for them.
     pub fn drain(&mut self, into: &mut History) -> Result<(), AllocError>
         ensures ok { OnOk result ((self.new ≡ record self.old { lines = []; line_spare = self.new.line_spare })
             × (self.old.line_spare ≤ self.new.line_spare) × HasMoved self.old.lines into.old into.new) }
@@ -230,7 +232,7 @@ impl EndOutput {
         Ok(())
     }
 
-    /// The oldest packet; `None` where there is none.
+    /// Removes and returns the oldest packet, or `None`.
     pub fn take_packet(&mut self) -> Option<Packet>
         ensures { MatchOption result ((self.old.packets ≡ []) × (self.new ≡ self.old))
             (λ packet. (self.old.packets ≡ packet ∷ self.new.packets)
@@ -240,7 +242,7 @@ impl EndOutput {
     }
 }
 
-// Moves the frames of lazy requests behind the packets.
+// Moves the frames of lazy requests to the end of the packets.
 fn move_frames(outbox: &mut VecDeque<LazyRequest>, packets: &mut VecDeque<Packet>)
     requires { length packets.old.items + length outbox.old.items ≤ deque_capacity packets.old }
     ensures packets { packets.new.items ≡ packets.old.items ++ map (λ r. Packet.Bytes r.frame) outbox.old.items }

@@ -1,16 +1,17 @@
+//! The names of an end, with the actor or the resolver that each is bound to.
 ghost use Rattle.std.specs.Prelude.{◌≡◌, ◌+◌, ◌<◌, ◌≤◌, not, Some, [], ◌∷◌, ◌++◌, find, filter, option_and_then, option_map, vec_len, vec_capacity, OnOk};
 ghost use Rattle.std.specs.Str.{bytes_eq};
 ghost use Rattle.channel_model.specs.Names.{held_by_name, without_name, holding, without_resolvers, is_actor};
 ghost use Rattle.end_parts.specs.NameContents.{named_by, content_of, naming_of, named_of, holds_at, shown_id};
 ghost use Rattle.end_parts.specs.Replies.{answered_by, answered_of};
 
+use crate::kept_resolver::KeptResolver;
 use crate::reply::AnsweredRequest;
-use crate::resolver::Resolver;
 use ipdl_base::Name;
 use std::alloc::{AllocError, Global};
 use std::marker::Model;
 
-/// What a name holds, as it is told; a resolver by the number of its request's message.
+/// What a name is bound to, as it is reported; a resolver by the number of its request's message.
 #[derive(Clone, Copy, Debug, PartialEq, Eq)]
 pub enum Named {
     Nothing,
@@ -18,22 +19,22 @@ pub enum Named {
     Resolver(u32),
 }
 
-/// What a name holds.
+/// What a name is bound to.
 #[derive(Drop)]
 pub enum NameContent {
     Actor(i32),
-    Resolver(Resolver),
+    Resolver(KeptResolver),
 }
 
-/// A name with what it holds.
+/// A name with what it is bound to.
 #[derive(Drop)]
 struct NameEntry {
     name: Name,
     content: NameContent,
 }
 
-/// The names of an end that hold something. Contracts see the list of them, and how many more there
-/// is room for. Only `reserve` takes memory.
+/// The names of an end that are bound. Contracts see the list of them, and the number of further
+/// names that there is room for. Only `reserve` takes memory.
 #[derive(Drop)]
 pub struct NameEntries {
     entries: Vec<NameEntry>,
@@ -50,7 +51,7 @@ impl Model for NameEntries {
 }
 
 impl NameEntries {
-    /// No name holds anything.
+    /// Returns a list without names.
     pub fn new(alloc: Global) -> NameEntries
         ensures { result.names ≡ [] }
     {
@@ -59,7 +60,7 @@ impl NameEntries {
         }
     }
 
-    /// What a name holds.
+    /// Returns what a name is bound to.
     pub fn named(&self, name: &Name) -> Named
         ensures { result ≡ named_by (held_by_name name.now self.now.names) }
     {
@@ -69,7 +70,8 @@ impl NameEntries {
         }
     }
 
-    /// What the answer by the resolver repeats that a name holds; `None` where it holds none.
+    /// Returns what the answer by the resolver of a name repeats, or `None` if the name has no
+    /// resolver.
     pub fn resolver_held(&self, name: &Name) -> Option<AnsweredRequest>
         ensures { option_map answered_of result ≡ option_and_then answered_by (held_by_name name.now self.now.names) }
     {
@@ -79,14 +81,14 @@ impl NameEntries {
         }
     }
 
-    /// Lets go of all resolvers that names hold.
+    /// Destroys all resolvers that names are bound to.
     pub fn drop_resolvers(&mut self)
         ensures { self.new.names ≡ without_resolvers self.old.names }
     {
         remove_resolvers(&mut self.entries);
     }
 
-    /// Makes room for one name more. The only error is want of memory, which changes nothing.
+    /// Makes room for one more name. Fails only if memory runs out, and then nothing changes.
     pub fn reserve(&mut self) -> Result<(), AllocError>
         ensures names { self.new.names ≡ self.old.names }
         ensures ok { OnOk result (0 < self.new.spare) }
@@ -94,7 +96,7 @@ impl NameEntries {
         self.entries.reserve(1)
     }
 
-    /// A name holds this, in place of what it held.
+    /// Binds a name, in place of what it was bound to.
     pub fn hold(&mut self, name: Name, content: NameContent)
         requires { 0 < self.old.spare }
         ensures { self.new.names ≡ without_name name self.old.names ++ holding name (Some (content_of content)) }
@@ -103,8 +105,8 @@ impl NameEntries {
         push_spare(&mut self.entries, NameEntry { name, content });
     }
 
-    /// A name holds the actor of an id, or nothing where the id is not positive, in place of what it
-    /// held.
+    /// Binds a name to the actor of an id, or to nothing if the id is not positive, in place of
+    /// what it was bound to.
     pub fn hold_actor(&mut self, name: Name, id: i32)
         requires { 0 < self.old.spare }
         ensures { self.new.names ≡ without_name name self.old.names ++ holding name (holds_at id) }
@@ -116,7 +118,7 @@ impl NameEntries {
         }
     }
 
-    /// A name holds nothing.
+    /// Unbinds a name.
     pub fn remove(&mut self, name: &Name)
         ensures { self.new.names ≡ without_name name.now self.old.names }
     {
@@ -133,7 +135,7 @@ fn remove_name(entries: &mut Vec<NameEntry>, name: &[u8])
     entries.retain(|entry| !(entry.name.as_slice() == name));
 }
 
-// Puts an entry last where there is room.
+// Appends an entry where there is room.
 fn push_spare(entries: &mut Vec<NameEntry>, entry: NameEntry)
     requires { vec_len entries.old < vec_capacity entries.old }
     ensures { entries.new.items ≡ entries.old.items ++ entry ∷ [] }
@@ -143,7 +145,7 @@ fn push_spare(entries: &mut Vec<NameEntry>, entry: NameEntry)
     }
 }
 
-// The entry of a name.
+// Returns the entry of a name.
 fn find_entry<'a>(entries: &'a [NameEntry], name: &[u8]) -> Option<&'a NameEntry>
     ensures { option_map (λ n. n.now) result ≡ find (λ n. bytes_eq n.name name.now) entries.now }
 {
@@ -157,7 +159,7 @@ fn remove_resolvers(entries: &mut Vec<NameEntry>)
     entries.retain(|entry| is_actor(entry));
 }
 
-// What an entry holds, as it is told.
+// Returns what an entry is bound to, as it is reported.
 fn named_of(content: &NameContent) -> Named
     ensures { result ≡ named_of content.now }
 {
@@ -167,7 +169,7 @@ fn named_of(content: &NameContent) -> Named
     }
 }
 
-// What the answer by a resolver that is held repeats.
+// Returns what the answer by the resolver of an entry repeats.
 fn answered_by(content: &NameContent) -> Option<AnsweredRequest>
     ensures { option_map answered_of result ≡ answered_by (content_of content.now) }
 {
@@ -177,7 +179,7 @@ fn answered_by(content: &NameContent) -> Option<AnsweredRequest>
     }
 }
 
-// Whether an entry holds an actor.
+// Whether an entry is bound to an actor.
 fn is_actor(entry: &NameEntry) -> bool
     ensures { result ≡ is_actor (naming_of entry.now) }
 {
@@ -187,7 +189,7 @@ fn is_actor(entry: &NameEntry) -> bool
     }
 }
 
-/// The id that the line of a name shows: 0 for one that is not positive.
+/// Returns the id that the line of a name shows: 0 for one that is not positive.
 pub fn shown_id(id: i32) -> i32
     ensures { result ≡ shown_id id }
 {

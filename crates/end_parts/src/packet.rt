@@ -1,3 +1,4 @@
+//! Packets as bytes.
 use ipdl_base::Items;
 
 /// What an end hands out for the other one.

@@ -1,4 +1,4 @@
-//! Packets as what they carry, and messages as packets.
+//! What the bytes of packets are, and the frames of messages.
 ghost use Rattle.std.specs.Prelude.{◌≡◌, IfOk};
 ghost use Rattle.channel_model.specs.Acts.{goodbye};
 ghost use Rattle.ipdl_base.specs.Plain.{plain_message};
@@ -8,30 +8,24 @@ ghost use Rattle.value_types.specs.Fits.{Fits};
 ghost use Rattle.end_parts.specs.PacketReading.{IsReading, packet_read};
 
 use crate::packet::Packet;
-use ipdl_base::{Body, Items, Message, Schema};
+use ipdl_base::{Body, GOODBYE_NUMBER, Items, Message, Rule, Schema};
 use std::alloc::{AllocError, Global};
-use value_codec::{Decoded, decode, frames_look_at_no_box, new_frame};
+use value_codec::{DecodeResult, decode, frames_look_at_no_box, new_frame};
 use value_types::NEW;
 
-/// What a packet is.
+/// What the bytes of a packet are.
 #[derive(Drop)]
 pub enum PacketReading {
     /// A message that fits the schema.
     Message(Message),
     /// The mark that its sender has died.
     Mark,
-    /// No frame of a message and nothing more: the offset and the rule of the first fault.
+    /// Not exactly one frame of a message: the offset and the rule of the first fault.
     Bad(usize, u8),
     NoMemory,
 }
 
-/// The rule that bytes break which are less than one frame, or more.
-const NOT_ONE_FRAME: u8 = 10;
-
-/// The number of a goodbye.
-const GOODBYE: u32 = 4294901760;
-
-/// What a packet is.
+/// Reads the bytes of a packet.
 pub fn read_packet(alloc: Global, schema: &Schema, packet: &Packet) -> PacketReading
     requires { IsSound schema.now }
     ensures { IsReading schema.now (packet_read schema.now packet.now) result }
@@ -41,22 +35,25 @@ pub fn read_packet(alloc: Global, schema: &Schema, packet: &Packet) -> PacketRea
         Packet::Bytes(frame) => {
             let bytes = frame.as_slice();
             match decode(alloc, schema, bytes) {
-                Decoded::Frame(message, size) => {
+                DecodeResult::Frame(message, size) => {
                     if size == bytes.len() {
                         PacketReading::Message(message)
                     } else {
-                        PacketReading::Bad(size, NOT_ONE_FRAME)
+                        PacketReading::Bad(size, Rule::NOT_ONE_FRAME.number)
                     }
                 }
-                Decoded::Short(_) => PacketReading::Bad(bytes.len(), NOT_ONE_FRAME),
-                Decoded::Bad(offset, rule) => PacketReading::Bad(offset, rule),
-                Decoded::NoMemory => PacketReading::NoMemory,
+                DecodeResult::Short(_) => PacketReading::Bad(
+                    bytes.len(),
+                    Rule::NOT_ONE_FRAME.number,
+                ),
+                DecodeResult::Bad(offset, rule) => PacketReading::Bad(offset, rule),
+                DecodeResult::NoMemory => PacketReading::NoMemory,
             }
         }
     }
 }
 
-/// The frame of a message.
+/// Returns the frame of a message.
 pub fn frame_of(alloc: Global, schema: &Schema, message: &Message) -> Result<Items<u8>, AllocError>
     requires sound { IsSound schema.now }
     requires fits { Fits schema.now message.now }
@@ -70,14 +67,14 @@ pub fn frame_of(alloc: Global, schema: &Schema, message: &Message) -> Result<Ite
     }
 }
 
-/// The frame of a goodbye.
+/// Returns the frame of a goodbye.
 pub fn goodbye_frame(alloc: Global, schema: &Schema) -> Result<Items<u8>, AllocError>
     requires { IsSound schema.now }
     ensures { IfOk result (λ frame. frame ≡ frame_bytes NEW schema.now goodbye) }
 {
     let message = Message {
         route: 0,
-        number: GOODBYE,
+        number: GOODBYE_NUMBER,
         seq: 0,
         transaction: 0,
         made: 0,

@@ -1,3 +1,4 @@
+//! The promises of an end, with the messages of their requests.
 ghost use Rattle.std.specs.Prelude.{◌≡◌, ◌≢◌, ◌<◌, [], ◌∷◌, ◌++◌, map, None, IfOk, OnOk, OnErr};
 ghost use Rattle.std.specs.List.{AllByRecursion};
 ghost use Rattle.std.specs.Ordering.{int_eq};
@@ -43,7 +44,7 @@ impl Model for PromiseEntries {
 }
 
 impl PromiseEntries {
-    /// No promise.
+    /// Returns a list without promises.
     pub fn new(alloc: Global) -> Result<PromiseEntries, AllocError>
         ensures { IfOk result (λ entries. entries ≡ []) }
     {
@@ -53,8 +54,8 @@ impl PromiseEntries {
         })
     }
 
-    /// Makes a pending promise of a number that none has, for a request of this message. It goes
-    /// last. Want of memory changes nothing.
+    /// Appends a pending promise of a number that no promise has, for a request of this message. If
+    /// memory runs out, nothing changes.
     pub fn make(&mut self, seq: i32, actor: i32, number: u32) -> Result<(), AllocError>
         requires { AllByRecursion (λ e. e.promise.seq ≢ seq) self.old }
         ensures ok { OnOk result (self.new ≡ self.old ++ record { promise = made seq actor; number = number } ∷ []) }
@@ -73,7 +74,8 @@ impl PromiseEntries {
         Ok(())
     }
 
-    /// Rejects the oldest that pends, and gives its number; `None` where none pends.
+    /// Rejects the oldest pending promise and returns its number, or `None` if no promise is
+    /// pending.
     pub fn reject_next(&mut self, reason: Reason) -> Option<i32>
         ensures oldest { result ≡ oldest_of is_pending self.old }
         ensures rejected { self.new ≡ with_oldest_rejected is_pending reason self.old }
@@ -81,8 +83,8 @@ impl PromiseEntries {
         self.promises.reject_all(reason)
     }
 
-    /// Rejects the oldest of an actor that pends, and gives its number; `None` where none of them
-    /// pends.
+    /// Rejects the oldest pending promise of an actor and returns its number, or `None` if the
+    /// actor has none.
     pub fn reject_next_of(&mut self, actor: i32, reason: Reason) -> Option<i32>
         ensures oldest { result ≡ oldest_of (is_pending_of actor) self.old }
         ensures rejected { self.new ≡ with_oldest_rejected (is_pending_of actor) reason self.old }
@@ -90,7 +92,7 @@ impl PromiseEntries {
         self.promises.reject_of(actor, reason)
     }
 
-    /// Settles the promise of a number, if it pends, and says whether it did.
+    /// Settles the promise of a number if it is pending, and reports whether it did.
     pub fn settle(&mut self, seq: i32, outcome: Outcome) -> bool
         ensures awaited { result ≡ is_awaited seq self.old }
         ensures settled { self.new ≡ map (settled_entry seq (plain_outcome outcome)) self.old }
@@ -109,7 +111,7 @@ impl PromiseEntries {
     }
 }
 
-// Whether a settling found its promise pending.
+// Whether a promise was pending until it was settled.
 fn is_now(settling: Settling) -> bool
     ensures { result ≡ is_now settling }
 {
@@ -119,7 +121,7 @@ fn is_now(settling: Settling) -> bool
     }
 }
 
-// Puts a request last, of a number that none has, where there is room.
+// Appends a request of a number that none has, where there is room.
 fn put_request(requests: &mut IndexMap<i32, RequestKey>, request: RequestKey)
     requires room { 0 < spare requests.old }
     requires free { get int_eq requests.old request.seq ≡ None }

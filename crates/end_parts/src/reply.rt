@@ -10,7 +10,7 @@ ghost use Rattle.end_parts.specs.Replies.{answered_of, line_of_reply};
 use ipdl_base::{Body, Message, Reason, SendRefusal, Values, What};
 use std::alloc::{AllocError, Global};
 
-/// What the answer to a request repeats of it.
+/// What the answer to a request repeats of the request.
 #[derive(Clone, Copy, Debug, PartialEq, Eq)]
 pub struct AnsweredRequest {
     pub seq: i32,
@@ -19,7 +19,7 @@ pub struct AnsweredRequest {
     pub transaction: i32,
 }
 
-/// The reply to a request.
+/// Returns the reply to a request.
 pub fn reply_to(request: &AnsweredRequest, body: Body) -> Message
     requires { request.now.number < 4294967295 }
     ensures { plain_message result ≡ reply_to (answered_of request.now) (plain_body body) }
@@ -34,8 +34,8 @@ pub fn reply_to(request: &AnsweredRequest, body: Body) -> Message
     }
 }
 
-/// The reply by a resolver: values, or without them the fault HandlerRejected. The only error is want
-/// of memory.
+/// Returns the reply by a resolver: values, or the fault HandlerRejected if there are none. Fails
+/// only if memory runs out.
 pub fn resolver_reply(
     alloc: Global,
     request: &AnsweredRequest,
@@ -48,7 +48,7 @@ pub fn resolver_reply(
     Ok(reply_to(request, body))
 }
 
-// What a reply by a resolver says.
+// Returns the body of a reply by a resolver.
 fn resolver_body(alloc: Global, values: Option<&Values>) -> Result<Body, AllocError>
     ensures { IfOk result (λ body. plain_body body ≡ answer_body (option_map (λ vs. plain_values vs.now) values.entry)) }
 {
@@ -58,7 +58,7 @@ fn resolver_body(alloc: Global, values: Option<&Values>) -> Result<Body, AllocEr
     }
 }
 
-/// The line of an answer by a resolver, with the values of its reply.
+/// Returns the line of an answer by a resolver, with the values of its reply.
 pub fn reply_line(reply: Message) -> What
     ensures { plain_what result ≡ line_of_reply (plain_message reply) }
 {
@@ -69,7 +69,7 @@ pub fn reply_line(reply: Message) -> What
     }
 }
 
-/// The line of an answer by a resolver that is refused.
+/// Returns the line of a refused answer by a resolver.
 pub fn refused_line(cause: SendRefusal, values: Option<&Values>) -> What
     ensures { result ≡ refused_line cause (option_map (λ vs. plain_values vs.now) values.entry) }
 {

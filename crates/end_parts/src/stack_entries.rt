@@ -1,3 +1,4 @@
+//! The stack of an end: calls inside calls, with what the end keeps beside each frame.
 ghost use Rattle.std.specs.Prelude.{◌≡◌, ◌<◌, ◌≤◌, [], ◌∷◌, ◌++◌, false, drop, find, length, map, option_map, reverse, None, Some, IsSome, IsSomeAnd, IfOk, vec_len, vec_capacity};
 ghost use Rattle.std.specs.Prelude.{◌==◌, ◌&&◌};
 ghost use Rattle.std.specs.Ordering.{int_eq};
@@ -17,18 +18,18 @@ ghost use Rattle.channel_model.specs.Returns.{dispatch_answered, dispatch_on_top
 ghost use Rattle.channel_model.specs.Takes.{takes_under};
 ghost use Rattle.end_parts.specs.CopiedAnswers.{IsCopied};
 ghost use Rattle.end_parts.specs.Replies.{answered_of, is_waited_for_in};
-ghost use Rattle.end_parts.specs.StackDetails.{dispatch_entry, holding_by, is_resolver_detail, is_resolver_of, released_detail, with_copy};
+ghost use Rattle.end_parts.specs.StackDetails.{dispatch_entry, deferral_context_by, is_resolver_detail, is_resolver_of, released_detail, with_copy};
 ghost use Rattle.end_parts.specs.Resumed.{IsTakenOff, IsWaitPopped, IsResumed};
 
 use crate::copied_answer::CopiedAnswer;
 use crate::reply::{AnsweredRequest, RequestKey, is_replied_to};
 use ipdl_base::{Level, Message, SendRefusal, Side, Values};
-use nesting_core::{Head, Popped, SendHead, Stack, StackTop};
-use pending_queue::Holding;
+use nesting_core::{Head, PoppedFrame, SendHead, Stack, StackTop};
+use pending_queue::DeferralContext;
 use std::alloc::{AllocError, Global};
 use std::marker::Model;
 
-/// What a frame of a stack does not keep.
+/// What an end keeps beside a frame of its stack.
 #[derive(Drop)]
 pub struct EntryDetail {
     /// The request; its number is that of the frame.
@@ -41,12 +42,12 @@ pub struct EntryDetail {
     answer_copy: Option<Values>,
 }
 
-/// The stack of an end: its frames, with what they do not keep. Contracts see the entries, innermost
-/// first, with their boxes at one place. Only `new` takes memory.
+/// The stack of an end: its frames, with what the end keeps beside them. Contracts see the entries,
+/// innermost first, with their boxes at one place. Only `new` takes memory.
 #[derive(Drop)]
 pub struct StackEntries {
     frames: Stack,
-    /// One for each frame, the outermost first.
+    /// One detail for each frame, the outermost first.
     details: Vec<EntryDetail>,
 }
 
@@ -69,7 +70,7 @@ impl Model for StackEntries {
 impl StackEntries {
     ghost use Rattle.end_parts.specs.StackDetails.{frames_in};
 
-    /// No entry, with room for as many as a stack can have.
+    /// Returns an empty stack, with room for the greatest number of entries.
     pub fn new(alloc: Global) -> Result<StackEntries, AllocError>
         ensures { IfOk result (λ entries. entries ≡ []) }
     {
@@ -88,15 +89,15 @@ impl StackEntries {
         self.frames.has_wait()
     }
 
-    /// The frame on top.
+    /// Returns the frame on top.
     pub fn top(&self) -> StackTop
         ensures { result ≡ top_of (frames_in self.now) }
     {
         self.frames.top()
     }
 
-    /// Whether an item that has arrived may be taken under these entries; then there is room for a
-    /// dispatch.
+    /// Whether an item that has arrived may be taken on top of these entries. If so, there is room
+    /// for a dispatch.
     pub fn takes(&self) -> bool
         ensures takes { result ≡ takes_under (top_of (frames_in self.now)) }
         ensures room { OnTrue result (length self.now < 64) }
@@ -104,32 +105,32 @@ impl StackEntries {
         takes_under(self.frames.top())
     }
 
-    /// What an end of this side with these entries awaits.
-    pub fn holding(&self, side: Side) -> Holding
-        ensures { result ≡ holding_by side (frames_in self.now) }
+    /// Returns what an end of this side with these entries awaits.
+    pub fn deferral_context(&self, side: Side) -> DeferralContext
+        ensures { result ≡ deferral_context_by side (frames_in self.now) }
     {
-        Holding {
+        DeferralContext {
             side,
             level: level_under(self.frames.top()),
             transaction: self.frames.transaction(0),
         }
     }
 
-    /// Why the stack refuses a send.
+    /// Returns why the stack refuses a send.
     pub fn refusal(&self, head: &SendHead) -> Option<SendRefusal>
         ensures { result ≡ refusal_of (frames_in self.now) head.now }
     {
         self.frames.refusal(head)
     }
 
-    /// The transaction of a sync message that is sent now with this number.
+    /// Returns the transaction of a sync message that is sent now with this number.
     pub fn transaction(&self, seq: i32) -> i32
         ensures { result ≡ transaction_of (frames_in self.now) seq }
     {
         self.frames.transaction(seq)
     }
 
-    /// Puts a wait on top, whose answer has not come.
+    /// Pushes a wait whose answer has not come.
     pub fn push_wait(&mut self, head: Head, route: i32, number: u32)
         requires { length self.old < 63 }
         ensures { self.new ≡ record { frame = Wait head None; route = route; number = number; resolves = false } ∷ self.old }
@@ -150,7 +151,7 @@ impl StackEntries {
         self.frames.push_wait(head);
     }
 
-    /// Puts a dispatch on top; whether it has its resolver is as said.
+    /// Pushes a dispatch; `resolves` is whether it has its resolver.
     pub fn push_dispatch(&mut self, head: Head, route: i32, number: u32, resolves: bool)
         requires { length self.old < 64 }
         ensures { self.new ≡ record { frame = Dispatch head; route = route; number = number; resolves = resolves } ∷ self.old }
@@ -171,8 +172,8 @@ impl StackEntries {
         self.frames.push_dispatch(head);
     }
 
-    /// Takes the frame on top off, where it is a wait with its answer; `None` where it is not, and
-    /// then nothing changes.
+    /// Pops the frame on top if it is a wait with its answer. Otherwise returns `None`, and nothing
+    /// changes.
     pub fn take_answered(&mut self) -> Option<ResumedCall>
         ensures { IsTakenOff self.old result self.new }
     {
@@ -186,7 +187,7 @@ impl StackEntries {
         }
     }
 
-    /// The entry on top, where it is a dispatch.
+    /// Returns the entry on top if it is a dispatch.
     pub fn dispatch_on_top(&self) -> Option<DispatchEntry>
         ensures { option_map dispatch_entry result ≡ dispatch_on_top self.now }
     {
@@ -204,7 +205,7 @@ impl StackEntries {
         }
     }
 
-    /// Takes the dispatch on top off.
+    /// Pops the dispatch on top.
     pub fn pop_dispatch(&mut self)
         requires { IsSome (dispatch_on_top self.old) }
         ensures { self.new ≡ drop 1 self.old }
@@ -213,15 +214,15 @@ impl StackEntries {
         self.details.pop();
     }
 
-    /// The resolver of the request of a number is used or kept, where its dispatch has it.
+    /// Notes that the resolver of the request of a number is used or kept, if its dispatch has it.
     pub fn release(&mut self, seq: i32)
         ensures { self.new ≡ released seq self.old }
     {
         release_details(self.details.as_mut_slice(), seq);
     }
 
-    /// Whether a dispatch has the resolver of the request of this number, neither used nor kept, and
-    /// the innermost such is that of a request of this message to this actor.
+    /// Whether a dispatch has the resolver of the request of this number, neither used nor kept,
+    /// and the innermost such dispatch is that of a request of this message to this actor.
     pub fn has_resolver(&self, request: &RequestKey) -> bool
         ensures { result ≡ is_resolver_of request.now.route request.now.number (option_map resolver_in (find (has_resolver request.now.seq) self.now)) }
     {
@@ -231,7 +232,7 @@ impl StackEntries {
         }
     }
 
-    /// Whether the innermost wait without an answer waits for this reply.
+    /// Whether the innermost wait without an answer is one for this reply.
     pub fn is_waited_for(&self, reply: &Message) -> bool
         ensures { result ≡ is_waited_for_in self.now reply.now }
     {
@@ -241,7 +242,7 @@ impl StackEntries {
         }
     }
 
-    /// The innermost wait without an answer, which has this number, gets its answer.
+    /// Stores the answer of the innermost wait without one, which has this number.
     pub fn answer_wait(&mut self, seq: i32, given: CopiedAnswer)
         requires awaited { awaited (frames_in self.old) ≡ Some seq }
         requires copied { IsCopied given }
@@ -252,8 +253,8 @@ impl StackEntries {
         keep_copy(self.details.as_mut_slice(), copy);
     }
 
-    /// The innermost wait without an answer fails, and its number is given; `None` where there is
-    /// none, and then nothing changes.
+    /// Fails the innermost wait without an answer and returns its number. Otherwise returns `None`,
+    /// and nothing changes.
     pub fn fail_next(&mut self) -> Option<i32>
         ensures number { result ≡ awaited (frames_in self.old) }
         ensures failed { self.new ≡ with_frames (with_answer (Fault ChannelClosed) (frames_in self.old)) self.old }
@@ -263,7 +264,7 @@ impl StackEntries {
         seq
     }
 
-    /// Takes all entries off.
+    /// Removes all entries.
     pub fn clear(&mut self)
         ensures { self.new ≡ [] }
     {
@@ -272,7 +273,7 @@ impl StackEntries {
     }
 }
 
-/// A call that goes on: its wait came off the stack, with its answer.
+/// A call that resumes: its wait was popped, with its answer.
 #[derive(Drop)]
 pub struct ResumedCall {
     /// The number of the request.
@@ -286,7 +287,7 @@ pub struct ResumedCall {
 #[derive(Clone, Copy)]
 pub struct DispatchEntry {
     pub head: Head,
-    /// The actor that the request went to.
+    /// The id of the actor that the request went to.
     pub route: i32,
     /// The number of the request's message.
     pub number: u32,
@@ -295,7 +296,7 @@ pub struct DispatchEntry {
 }
 
 impl DispatchEntry {
-    /// What the answer to its request repeats of that.
+    /// Returns what the answer to the request of this dispatch repeats.
     pub fn answered(&self) -> AnsweredRequest
         ensures { answered_of result ≡ dispatch_answered (dispatch_entry self.now) }
     {
@@ -308,7 +309,7 @@ impl DispatchEntry {
     }
 }
 
-// Whether an item that has arrived may be taken under this top.
+// Whether an item that has arrived may be taken on top of this frame.
 fn takes_under(top: StackTop) -> bool
     ensures { result ≡ takes_under top }
 {
@@ -318,7 +319,7 @@ fn takes_under(top: StackTop) -> bool
     }
 }
 
-// The level of the message whose reply is awaited under this top.
+// Returns the level of the message whose reply is awaited, if this frame is on top.
 fn level_under(top: StackTop) -> Option<Level>
     ensures { result ≡ level_under top }
 {
@@ -328,14 +329,14 @@ fn level_under(top: StackTop) -> Option<Level>
     }
 }
 
-// What came off a stack, which is a wait with its answer.
-fn resumed_call(frame: Option<Popped>, detail: Option<EntryDetail>) -> ResumedCall
+// Returns the call that resumes from a popped wait with its answer.
+fn resumed_call(frame: Option<PoppedFrame>, detail: Option<EntryDetail>) -> ResumedCall
     requires wait { IsSomeAnd frame IsWaitPopped }
     requires detail { IsSome detail }
     ensures { IsResumed frame detail result }
 {
     match (frame, detail) {
-        (Some(Popped::Wait(head, answer)), Some(detail)) => {
+        (Some(PoppedFrame::Wait(head, answer)), Some(detail)) => {
             let EntryDetail {
                 request,
                 is_unanswered: _is_unanswered,
@@ -355,7 +356,7 @@ fn resumed_call(frame: Option<Popped>, detail: Option<EntryDetail>) -> ResumedCa
     }
 }
 
-// Puts a detail last where there is room.
+// Appends a detail where there is room.
 fn push_spare(details: &mut Vec<EntryDetail>, detail: EntryDetail)
     requires { vec_len details.old < vec_capacity details.old }
     ensures items { details.new.items ≡ details.old.items ++ detail ∷ [] }
@@ -366,7 +367,7 @@ fn push_spare(details: &mut Vec<EntryDetail>, detail: EntryDetail)
     }
 }
 
-// The resolver of a detail is used or kept, if it is that of the request of this number.
+// Notes that the resolver of a detail is used or kept, if it is that of the request of this number.
 fn release_detail(detail: &mut EntryDetail, seq: i32)
     ensures { detail.new ≡ released_detail seq detail.old }
 {
@@ -375,7 +376,7 @@ fn release_detail(detail: &mut EntryDetail, seq: i32)
     }
 }
 
-// The same of all details.
+// Does the same for all details.
 fn release_details(details: &mut [EntryDetail], seq: i32)
     ensures { reverse details.new ≡ map (released_detail seq) (reverse details.old) }
 {
@@ -405,7 +406,7 @@ fn keep_copy(details: &mut [EntryDetail], copy: Option<Values>)
     }
 }
 
-// The innermost detail of a wait without an answer.
+// Returns the innermost detail of a wait without an answer.
 fn innermost_unanswered(details: &[EntryDetail]) -> Option<&EntryDetail>
     ensures { option_map (λ d. d.now) result ≡ find (λ d. d.is_unanswered) (reverse details.now) }
 {
@@ -419,7 +420,7 @@ fn is_alike(one: &RequestKey, other: &RequestKey) -> bool
     one.route == other.route && one.number == other.number
 }
 
-// The innermost detail of a dispatch that has the resolver of the request of this number.
+// Returns the innermost detail of a dispatch that has the resolver of the request of this number.
 fn innermost_resolver<'a>(
     details: &'a [EntryDetail],
     request: &RequestKey,

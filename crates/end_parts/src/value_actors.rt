@@ -1,4 +1,4 @@
-//! The actors in values: which of them live, and nulls in place of those that do not.
+//! The actors in values: which of them live, and null in place of those that do not.
 ghost use Rattle.std.specs.Prelude.{◌≡◌, find};
 ghost use Rattle.channel_model.specs.Refusals.{actors_of, lives_otherwise};
 ghost use Rattle.channel_model.specs.ValueActors.{lives_as, actor_at, actors_in, actors_in_all, actors_in_parts, nulled_value, nulled_all, nulled, received_id};
@@ -11,7 +11,7 @@ use ipdl_base::{
 };
 use value_types::{component_of, element_of, fields_of, held_by};
 
-/// Which actors in values are looked for.
+/// The actors in values that a search is for.
 #[derive(Clone, Copy)]
 pub enum ActorTest {
     /// Those that are not null and do not live with the protocol of their type.
@@ -42,7 +42,7 @@ pub fn lives_otherwise(tree: &Tree, protocol: u32, id: i32) -> bool
     }
 }
 
-// Whether an actor of a value is one that is looked for.
+// Whether a search is for this actor of a value.
 fn is_sought(test: ActorTest, tree: &Tree, id: i32, protocol: u32, nullable: bool) -> bool
     ensures { result ≡ is_sought test tree.now (record { id = id; protocol = protocol; nullable = nullable }) }
 {
@@ -53,7 +53,7 @@ fn is_sought(test: ActorTest, tree: &Tree, id: i32, protocol: u32, nullable: boo
     }
 }
 
-// The actor of a type, where it is one that is looked for.
+// Returns the actor of a type if the search is for it.
 fn first_at(id: i32, test: ActorTest, tree: &Tree, shape: &Shape) -> Option<i32>
     ensures { result ≡ first_id (is_sought test tree.now) (actor_at shape.now id) }
 {
@@ -69,7 +69,7 @@ fn first_at(id: i32, test: ActorTest, tree: &Tree, shape: &Shape) -> Option<i32>
     }
 }
 
-// The first in a value of a type.
+// Returns the first actor found in a value of a type.
 #[cycle(seek)]
 fn first_in_value(
     value: &Value,
@@ -107,7 +107,7 @@ fn first_in_value(
     }
 }
 
-// The first in values of one type.
+// Returns the first actor found in values of one type.
 #[cycle(seek)]
 fn first_in_all(
     values: &Values,
@@ -130,7 +130,8 @@ fn first_in_all(
     }
 }
 
-/// The first actor that is looked for in values of the types of parameters, returns or fields.
+/// Returns the first actor that a search finds in values of the types of parameters, returns or
+/// fields.
 #[cycle(seek)]
 pub fn first_actor(
     values: &Values,
@@ -153,7 +154,7 @@ pub fn first_actor(
     }
 }
 
-/// The first actor that a message speaks of and that lives with another protocol: the one that it
+/// Returns the first actor of a message that lives with another protocol: the one that the message
 /// goes to, and then those of its values.
 pub fn wrong_actor(schema: &Schema, tree: &Tree, row: &MessageRow, message: &Message) -> Option<i32>
     ensures { result ≡ first_id (is_sought ActorTest.Otherwise tree.now) (actors_of schema.now row.now message.now message.now.body) }
@@ -187,7 +188,7 @@ pub fn wrong_actor(schema: &Schema, tree: &Tree, row: &MessageRow, message: &Mes
     }
 }
 
-// Whether an actor of this id and protocol lives beside the one that is left out.
+// Whether an actor of this id and protocol lives, other than the one that is left out.
 fn lives_beside(tree: &Tree, left_out: Option<i32>, protocol: u32, id: i32) -> bool
     ensures { result ≡ lives_as (living_beside left_out tree.now) protocol id }
 {
@@ -197,7 +198,7 @@ fn lives_beside(tree: &Tree, left_out: Option<i32>, protocol: u32, id: i32) -> b
     }
 }
 
-// Puts null for a dead actor of a nullable type.
+// Replaces a dead actor of a nullable type by null.
 fn null_actor(id: &mut i32, tree: &Tree, left_out: Option<i32>, shape: &Shape)
     ensures { id.new ≡ received_id (living_beside left_out tree.now) shape.now id.old }
 {
@@ -211,7 +212,7 @@ fn null_actor(id: &mut i32, tree: &Tree, left_out: Option<i32>, shape: &Shape)
     }
 }
 
-// Puts null for the dead actors of nullable types in a value.
+// Replaces the dead actors of nullable types in a value by null.
 #[cycle(nulls)]
 fn null_in_value(
     value: &mut Value,
@@ -253,7 +254,7 @@ fn null_in_value(
     }
 }
 
-// The same in values of one type.
+// Does the same in values of one type.
 #[cycle(nulls)]
 fn null_in_all(
     values: &mut Values,
@@ -273,7 +274,7 @@ fn null_in_all(
     }
 }
 
-// The same in values of the types of parameters, returns or fields.
+// Does the same in values of the types of parameters, returns or fields.
 #[cycle(nulls)]
 fn null_in_fields(
     values: &mut Values,
@@ -295,7 +296,7 @@ fn null_in_fields(
     }
 }
 
-/// Puts null for the dead actors of nullable types in values of the types of parameters, returns or
+/// Replaces dead actors of nullable types by null, in values of the types of parameters, returns or
 /// fields. Boxes stay where they are.
 pub fn null_dead(values: &mut Values, schema: &Schema, tree: &Tree, types: &[ParamRow])
     ensures { values.new ≡ nulled schema.now tree.now types.now values.old }
@@ -303,8 +304,8 @@ pub fn null_dead(values: &mut Values, schema: &Schema, tree: &Tree, types: &[Par
     null_in_fields(values, schema, tree, None, types);
 }
 
-/// The same, where the actor of an id is taken for one that does not live: the one that the request of
-/// these values has just built.
+/// Does the same, but takes the actor of an id for a dead one: the one that the request of these
+/// values has just built.
 pub fn null_dead_beside(
     values: &mut Values,
     schema: &Schema,

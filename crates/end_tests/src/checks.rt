@@ -1,11 +1,11 @@
-//! What is found, as words that are appended to a text.
+//! Results, as words that are appended to a text.
 
 use ipdl_base::{Items, Reason, SendRefusal, What};
 use nesting_core::{Answer, StackTop};
 use std::alloc::{AllocError, Global};
 use std::process::Abort;
 
-/// Compares what is found with what is wanted.
+/// Compares the result with the expected one.
 pub fn check(rt: &impl Abort, found: &str, wanted: &str) {
     assert_eq!(rt; found, wanted);
 }
@@ -44,7 +44,7 @@ pub fn push_digits(log: &mut String, bytes: &[u8]) -> Result<(), AllocError> {
     Ok(())
 }
 
-/// Appends a number, or that there is none.
+/// Appends a number, or `none`.
 pub fn push_number(log: &mut String, number: Option<i32>) -> Result<(), AllocError> {
     match number {
         None => log.push_str("none"),
@@ -62,7 +62,7 @@ pub fn push_three(log: &mut String, numbers: [Option<i32>; 3]) -> Result<(), All
     push_number(log, third)
 }
 
-/// A refusal, or that there is none.
+/// Returns the word for a refusal, or `none`.
 pub fn refusal_text(refusal: Option<SendRefusal>) -> &'static str {
     match refusal {
         None => "none",
@@ -73,6 +73,7 @@ pub fn refusal_text(refusal: Option<SendRefusal>) -> &'static str {
     }
 }
 
+/// Returns the word for the frame on top.
 pub fn top_text(top: StackTop) -> &'static str {
     match top {
         StackTop::Empty => "empty",
@@ -82,6 +83,7 @@ pub fn top_text(top: StackTop) -> &'static str {
     }
 }
 
+/// Returns the word for an answer.
 pub fn answer_text(answer: &Answer) -> &'static str {
     match answer {
         Answer::Ok(_) => "ok",

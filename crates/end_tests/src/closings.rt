@@ -1,3 +1,4 @@
+//! Tests of rejected promises, falls and failed waits.
 ghost use Rattle.std.specs.Prelude.{◌≡◌, ◌≤◌, [], ◌∷◌};
 ghost use Rattle.actor_tree.specs.Tree.{top};
 
@@ -7,9 +8,8 @@ use super::parts::{Case, told};
 use super::schemas::{ASK, CALL, TOP, insert_kid};
 use super::stacks::head_of;
 use actor_tree::Tree;
-use end_parts::{
-    EndOutput, FallCause, PromiseEntries, StackEntries, fail_all, let_fall, reject_all,
-};
+use end_parts::{EndOutput, PromiseEntries, StackEntries};
+use end_steps::{FallCause, destroy_subtree, fail_all, reject_all};
 use ipdl_base::Side;
 use std::alloc::{AllocError, Global};
 use std::test::Fail;
@@ -30,7 +30,7 @@ pub fn rejection(
     push_lines(alloc, log, out)
 }
 
-/// Lets an actor fall with its promise.
+/// Destroys an actor with its promise.
 fn let_kid_fall(
     tree: &mut Tree,
     promises: &mut PromiseEntries,
@@ -43,7 +43,7 @@ fn let_kid_fall(
     insert_kid(tree)?;
     promises.make(1, 6, ASK)?;
     let cause = FallCause::Deletion(6);
-    let_fall(Side::Parent, 6, cause, tree, promises, out);
+    destroy_subtree(Side::Parent, 6, cause, tree, promises, out);
     Ok(())
 }
 

@@ -1,6 +1,7 @@
+//! Tests of the names of an end.
 use super::checks::check;
 use super::schemas::{ASK, TOP};
-use end_parts::{NameContent, NameEntries, Named, Resolver, shown_id};
+use end_parts::{KeptResolver, NameContent, NameEntries, Named, shown_id};
 use ipdl_base::Name;
 use std::alloc::{AllocError, Global};
 use std::test::Fail;
@@ -13,7 +14,7 @@ fn named_text(named: Named) -> &'static str {
     }
 }
 
-/// Gives a name the actor 6.
+/// Binds a name to the actor 6.
 fn hold_actor(alloc: Global, names: &mut NameEntries, name: &Name) -> Result<(), AllocError> {
     names.reserve()?;
     let copy = name.copy(alloc)?;
@@ -21,29 +22,29 @@ fn hold_actor(alloc: Global, names: &mut NameEntries, name: &Name) -> Result<(),
     Ok(())
 }
 
-/// Gives a name a resolver.
+/// Binds a name to a resolver.
 fn hold_resolver(alloc: Global, names: &mut NameEntries, name: &Name) -> Result<(), AllocError> {
     names.reserve()?;
     let copy = name.copy(alloc)?;
-    names.hold(copy, NameContent::Resolver(Resolver::new(-1, TOP, ASK)));
+    names.hold(copy, NameContent::Resolver(KeptResolver::new(-1, TOP, ASK)));
     Ok(())
 }
 
 /// Appends what a resolver is, and what the answer by it repeats.
 fn push_resolver(log: &mut String) -> Result<(), AllocError> {
-    let resolver = Resolver::new(-1, TOP, ASK);
+    let resolver = KeptResolver::new(-1, TOP, ASK);
     let (seq, route, number) = (resolver.seq(), resolver.route(), resolver.number());
     let transaction = resolver.answered().transaction;
     write!(log, "{seq} {route} {number} {transaction}")
 }
 
-/// Whether a name holds a resolver whose answer repeats what that of this one does.
+/// Whether a name has a resolver whose answer repeats what that of this one does.
 fn holds_resolver(names: &NameEntries, name: &Name) -> bool {
-    let wanted = Resolver::new(-1, TOP, ASK).answered();
+    let wanted = KeptResolver::new(-1, TOP, ASK).answered();
     names.resolver_held(name) == Some(wanted)
 }
 
-/// What two names hold, as words.
+/// Returns what two names are bound to, as words.
 fn named_texts(names: &NameEntries, kid: &Name, answer: &Name) -> (&'static str, &'static str) {
     (
         named_text(names.named(kid)),
@@ -84,7 +85,7 @@ fn tell_with_kid(alloc: Global, kid: &Name, log: &mut String) -> Result<(), Allo
     done
 }
 
-/// Appends what two names and a resolver tell.
+/// Appends the results of two names and a resolver.
 fn tell(alloc: Global, log: &mut String) -> Result<(), AllocError> {
     push_resolver(log)?;
     let kid = Name::from_slice(alloc, b"kid")?;

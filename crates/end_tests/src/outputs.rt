@@ -1,3 +1,4 @@
+//! Tests of the output of an end: its lines, its packets and its outbox.
 ghost use Rattle.std.specs.Prelude.{◌≡◌, ◌≤◌, IsSome, OnOk};
 
 use super::checks::{check, frame, push_digits, what_text};
@@ -78,8 +79,8 @@ fn push_lazy(alloc: Global, out: &mut EndOutput, seq: i32, digits: &str) -> Resu
     Ok(())
 }
 
-/// Puts two lazy requests behind one another, one by a flush and one by a packet, and says how many
-/// waited for the flush.
+/// Puts two lazy requests one after the other, one by a flush and one by a packet, and appends the
+/// number that waited for the flush.
 fn put_two(alloc: Global, out: &mut EndOutput) -> Result<usize, AllocError> {
     push_lazy(alloc, out, 1, "01")?;
     out.reserve(0, 2)?;
@@ -92,7 +93,7 @@ fn put_two(alloc: Global, out: &mut EndOutput) -> Result<usize, AllocError> {
     Ok(waiting)
 }
 
-/// Two lazy requests, and a packet behind them.
+/// Two lazy requests, and a packet after them.
 pub fn two_lazy_requests(
     alloc: Global,
     out: &mut EndOutput,
@@ -115,7 +116,7 @@ pub fn goodbye(alloc: Global, out: &mut EndOutput, log: &mut String) -> Result<(
     push_packets(log, out)
 }
 
-/// Says a line, owes others and puts a mark, and says how much less room there is.
+/// Prints a line, owes others and puts a mark, and appends the loss of room.
 fn say_line(out: &mut EndOutput) -> Result<usize, AllocError> {
     out.reserve(4, 0)?;
     let before = out.line_spare();
@@ -131,7 +132,7 @@ fn say_line(out: &mut EndOutput) -> Result<usize, AllocError> {
     Ok(before.saturating_sub(after))
 }
 
-/// A line that is owed and said, and a mark.
+/// A line that is owed and printed, and a mark.
 pub fn line_and_mark(
     alloc: Global,
     out: &mut EndOutput,

@@ -1,3 +1,4 @@
+//! Tests of the bytes of packets.
 ghost use Rattle.ipdl_base.specs.Sound.{IsSound};
 
 use super::checks::{check, frame, push_digits};

@@ -1,4 +1,4 @@
-//! The parts of an end that cases are tried on. What owns much is let go field by field on each way out
+//! The parts of an end that cases are tried on. What owns much is destroyed field by field on each way out
 //! of its function, so each part has one function that owns it and lends it to the next.
 ghost use Rattle.std.specs.Prelude.{◌≡◌, []};
 ghost use Rattle.ipdl_base.specs.Sound.{IsSound};
@@ -11,7 +11,7 @@ use ipdl_base::Schema;
 use std::alloc::{AllocError, Global};
 use std::test::Fail;
 
-/// What is tried.
+/// The cases.
 #[derive(Clone, Copy)]
 pub enum Case {
     CallUnderHandler,
@@ -26,7 +26,7 @@ pub enum Case {
     Failure,
 }
 
-/// What cases tell, each on a line of its own.
+/// The results of the cases, each on a line of its own.
 pub fn told(alloc: Global, cases: &[Case]) -> Result<String, AllocError> {
     let mut log = String::new(alloc);
     tell_all(alloc, cases, &mut log)?;
@@ -41,7 +41,7 @@ fn tell_all(alloc: Global, cases: &[Case], log: &mut String) -> Result<(), Alloc
     Ok(())
 }
 
-/// Tries a case on new parts, and appends what they tell.
+/// Tries a case on new parts, and appends the results.
 fn tell(alloc: Global, case: Case, log: &mut String) -> Result<(), AllocError> {
     let mut promises = PromiseEntries::new(alloc)?;
     let done = tell_with_promises(alloc, case, &mut promises, log);
@@ -128,7 +128,7 @@ fn tell_of_schema(
     }
 }
 
-/// What a case under the one schema tells.
+/// The results of a case under the one schema.
 pub fn told_of_schema(alloc: Global, case: SchemaCase) -> Result<String, Fail> {
     let schema = the_schema(alloc)?;
     let mut log = String::new(alloc);

@@ -1,3 +1,4 @@
+//! Tests of the promises of an end.
 ghost use Rattle.std.specs.Prelude.{◌≡◌, []};
 
 use super::checks::{check, push_three};

@@ -1,3 +1,4 @@
+//! Tests of the actors in values, and of refused requests and answers.
 ghost use Rattle.ipdl_base.specs.Sound.{IsSound};
 ghost use Rattle.end_parts.specs.CopiedAnswers.{IsCopied};
 ghost use Rattle.std.specs.Prelude.{IfOk};
@@ -7,10 +8,10 @@ use super::parts::{SchemaCase, told_of_schema};
 use super::schemas::{ASK, CALL, TOP, insert_kid};
 use actor_tree::Tree;
 use end_parts::{
-    ActorTest, AnsweredRequest, CopiedAnswer, StackEntries, answer_refusal, first_actor, id_of,
-    lives_as, lives_otherwise, next_request, receive_answer, reply_to, resume_line, send_line,
-    send_refusal, seq_of, wrong_actor,
+    ActorTest, AnsweredRequest, CopiedAnswer, StackEntries, first_actor, lives_as, lives_otherwise,
+    receive_answer, reply_to, resume_line, wrong_actor,
 };
+use end_steps::{answer_refusal, id_of, next_request, send_line, send_refusal, seq_of};
 use ipdl_base::{Body, Message, MessageRow, Schema, Side, Value, Values, What, returns_of_row};
 use nesting_core::Answer;
 use std::alloc::{AllocError, Global};
@@ -33,15 +34,10 @@ fn one_actor(alloc: Global, id: i32) -> Result<Values, AllocError> {
     ))
 }
 
-/// The line of a request.
-fn line_of(
-    alloc: Global,
-    scene: Scene,
-    message: &Message,
-    values: &Values,
-) -> Result<What, AllocError> {
-    let values = values.copy(alloc)?;
-    Ok(send_line(scene.row, message, values))
+/// Returns the line of a request.
+fn line_of(alloc: Global, scene: Scene, message: &Message) -> Result<What, AllocError> {
+    let message = message.copy(alloc)?;
+    Ok(send_line(scene.row, message))
 }
 
 /// Appends which actor of a request is wrong, why ends that are closed and open refuse to send it, and
@@ -61,8 +57,8 @@ fn push_refusals(
         row,
     } = scene;
     push_number(log, wrong_actor(schema, tree, row, message))?;
-    let closed = refusal_text(send_refusal(false, schema, tree, stack, row, message, values));
-    let open = refusal_text(send_refusal(true, schema, tree, stack, row, message, values));
+    let closed = refusal_text(send_refusal(false, schema, tree, stack, row, message.route, values));
+    let open = refusal_text(send_refusal(true, schema, tree, stack, row, message.route, values));
     write!(log, " {closed} {open} {}", message.seq)
 }
 
@@ -77,7 +73,7 @@ fn push_sent(
     requires { IsSound scene.schema.now }
 {
     push_refusals(log, scene, message, values)?;
-    let line = line_of(alloc, scene, message, values)?;
+    let line = line_of(alloc, scene, message)?;
     let done = writeln!(log, " {}", what_text(&line));
     drop(line);
     done
@@ -199,7 +195,7 @@ fn push_received(alloc: Global, log: &mut String, scene: Scene, id: i32) -> Resu
     done
 }
 
-/// Appends what a message tells with several routes and actors.
+/// Appends the results of a message with several routes and actors.
 fn push_message(alloc: Global, log: &mut String, scene: Scene) -> Result<(), AllocError>
     requires { IsSound scene.schema.now }
 {
@@ -212,7 +208,7 @@ fn push_message(alloc: Global, log: &mut String, scene: Scene) -> Result<(), All
     push_received(alloc, log, scene, 8)
 }
 
-/// Appends what two messages tell.
+/// Appends the results of two messages.
 fn push_messages(
     alloc: Global,
     log: &mut String,
@@ -265,7 +261,7 @@ fn tell_with_tree(
     done
 }
 
-/// Appends what a tree of two actors tells, and what two messages of a schema do.
+/// Appends the results of a tree of two actors, and of two messages of a schema.
 pub fn tell(alloc: Global, schema: &Schema, log: &mut String) -> Result<(), AllocError>
     requires { IsSound schema.now }
 {

@@ -1,19 +1,22 @@
+//! The program of the tests, and its schema.
 ghost use Rattle.std.specs.Prelude.{◌≡◌, ◌∷◌, ◌++◌, [], pos, IfOk, OnOk};
 ghost use Rattle.ipdl_base.specs.Sound.{IsSound};
 
 use actor_tree::Tree;
-use ipdl_base::{MemoryFiles, Schema};
+use ipdl_base::{Schema, TOP_ID};
+use memory_files::MemoryFiles;
 use schema_of_text::schema_of;
 use std::alloc::{AllocError, Global};
 use std::test::Fail;
 
 /// The id of the top actor.
-pub const TOP: i32 = 2147483647;
+pub const TOP: i32 = TOP_ID;
 
 /// The numbers of the messages of the top protocol, which has the number 1: one with a promise and one
 /// that is sync.
 pub const ASK: u32 = 65538;
 
+/// The number of the sync message.
 pub const CALL: u32 = 65540;
 
 /// The files of the one program. Its protocols are numbered by their names.

@@ -1,3 +1,4 @@
+//! Tests of the stack of an end.
 ghost use Rattle.std.specs.Prelude.{◌≡◌, []};
 
 use super::checks::{answer_text, check, push_three, refusal_text, top_text};
@@ -34,7 +35,7 @@ fn waits_for(stack: &StackEntries, seq: i32) -> bool {
     stack.is_waited_for(&reply)
 }
 
-/// What the calls of a stack say of it, before it changes.
+/// Appends what the calls of a stack return, before it changes.
 #[derive(Clone, Copy)]
 struct StackReport {
     top: &'static str,
@@ -78,7 +79,7 @@ fn push_dispatch(log: &mut String, entry: Option<DispatchEntry>) -> Result<(), A
     }
 }
 
-/// A call that went on.
+/// A call that resumed.
 #[derive(Clone, Copy)]
 struct Resumed {
     seq: i32,
@@ -86,7 +87,7 @@ struct Resumed {
     answer: &'static str,
 }
 
-/// Lets a call go on, if one may.
+/// Resumes a call, if one may.
 fn resume(stack: &mut StackEntries) -> Option<Resumed> {
     let call = stack.take_answered()?;
     let (seq, number) = (call.seq, call.number);
@@ -98,7 +99,7 @@ fn resume(stack: &mut StackEntries) -> Option<Resumed> {
     })
 }
 
-/// Appends a call that went on, and what the stack said then.
+/// Appends a call that resumed, and what the stack returned then.
 fn push_resumed(
     log: &mut String,
     call: Option<Resumed>,
@@ -111,7 +112,7 @@ fn push_resumed(
     push_shown(log, left)
 }
 
-/// A call under a handler: it is answered, and then goes on.
+/// A call under a handler: it is answered, and then resumes.
 pub fn call_under_handler(stack: &mut StackEntries, log: &mut String) -> Result<(), AllocError>
     requires { stack.old ≡ [] }
 {

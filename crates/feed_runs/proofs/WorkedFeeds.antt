@@ -26,16 +26,18 @@ use Rattle.value_codec.specs.Frames.{ended, made_at, request_at, returns_at}
 use Rattle.value_codec.specs.Reading.{field_at, flag_at, flag_value_at, signed_at, value_at, values_at, zeros}
 use Rattle.feed_runs.specs.declared.fault.FeedFault.{FeedFault}
 use Rattle.feed_runs.specs.declared.fault.FeedFault.TheVariants as fault
-use Rattle.feed_runs.specs.FeedTurns.{FeedSetting, beginning_of, fed}
+use Rattle.script_steps.specs.Choices.{Setting}
+use Rattle.feed_runs.specs.FeedTurns.{beginning_of, fed}
 
--- What a feed shows.
+-- What the feed of a parent shows.
 record Shown : Type 0 where
   lines : List Line
   fault : Option FeedFault
   spent : Bool
 
-abbrev shown : FeedSetting → List ℕ → Option Shown
-shown setting bytes = option_map (λ end. record { lines = end.state.lines; fault = end.state.fault; spent = end.spent }) (fed setting bytes 12 (beginning_of setting))
+abbrev shown : Setting → List ℕ → Option Shown
+shown setting bytes =
+    option_map (λ end. record { lines = end.state.half.lines; fault = end.state.fault; spent = end.spent }) (fed setting side.Parent bytes 12 (beginning_of setting side.Parent))
 
 abbrev p : What → Line
 p what = record { side = side.Parent; what = what }
@@ -58,11 +60,11 @@ asking = record {
 }
 
 -- the parent asks once
-abbrev asks_once : FeedSetting
+abbrev asks_once : Setting
 asks_once = record {
   schema = asking;
   script = record { top = 0; blocks = record { side = side.Parent; handles = None; actions = action.Send who.Top 0 terms.Nothing ∷ []; reply = None } ∷ [] };
-  side = side.Parent;
+  stop = None;
   limit = 10000;
 }
 
@@ -89,7 +91,7 @@ settles : shown asks_once (reply_frame 1) ≡ Some (record {
 unfolding begins ended field_at returns_at signed_at value_at values_at zeros
 settles = refl
 
--- a reply to a request that was not sent is stray, and nothing behind it is read: the promise is rejected as the end closes
+-- a reply to a request that was not sent is stray, and nothing after it is read: the promise is rejected as the end closes
 stray : shown asks_once (reply_frame 2 ++ reply_frame 1) ≡ Some (record {
   lines =
       p (what.Send (pos 1) (pos 2147483647) 0 Nothing)
@@ -138,8 +140,8 @@ flags = record {
 }
 
 -- the parent does nothing of its own
-abbrev idle : FeedSetting
-idle = record { schema = flags; script = record { top = 0; blocks = [] }; side = side.Parent; limit = 10000 }
+abbrev idle : Setting
+idle = record { schema = flags; script = record { top = 0; blocks = [] }; stop = None; limit = 10000 }
 
 abbrev flag_frame : List ℕ
 flag_frame =

@@ -5,7 +5,7 @@ use Rattle.ipdl_base.specs.declared.schema.Schema.{Schema}
 use Rattle.value_types.specs.declared.layout.TheConstants.{NEW}
 use Rattle.value_codec.specs.Spelling.{FrameOf}
 use Rattle.channel_model.specs.Ends.{Packet, message, mark}
-use Rattle.feed_runs.specs.FeedTurns.{FeedSetting, FeedState}
+use Rattle.feed_runs.specs.FeedTurns.{FeedState}
 
 -- Bytes are the frames of the messages among packets, in order. A mark has none.
 pub data AreFrames (schema : Schema) : List ℕ → List Packet → Type 0 where
@@ -14,6 +14,6 @@ pub data AreFrames (schema : Schema) : List ℕ → List Packet → Type 0 where
   ends : (bytes : List ℕ) (packets : List Packet) → AreFrames schema bytes packets → AreFrames schema bytes (packets ++ mark ∷ [])
 
 -- The bytes up to the place of a state are the frames of what was delivered.
-pub record HasReadFrames (setting : FeedSetting) (bytes : List ℕ) (state : FeedState) : Type 0 where
+pub record HasReadFrames (schema : Schema) (bytes : List ℕ) (state : FeedState) : Type 0 where
   pub within : state.place ≤ length bytes
-  pub frames : AreFrames setting.schema (take state.place bytes) state.packets
+  pub frames : AreFrames schema (take state.place bytes) state.half.delivered

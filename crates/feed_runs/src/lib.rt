@@ -1,9 +1,9 @@
-//! A feed: one end by itself against a list of bytes, whatever they are, by what a script says of its
-//! side (docs/feed.md). No function that runs.
+//! A feed: a half by itself whose packets come from a list of bytes, whatever they are (docs/feed.md).
+//! This crate has definitions and laws, and no function that runs.
 #![tactic(auto)]
 
 mod fault;
 mod laws;
 
 pub use fault::FeedFault;
-pub use laws::{feeds_have_one_result, feeds_read_frames};
+pub use laws::{feeds_are_half_runs, feeds_have_one_result, feeds_read_frames};

@@ -1,9 +1,9 @@
--- What the file of a key is read as, and with it what it names and where it has a bad token or a syntax fault.
+-- The content of the file of a key, the keys that it names, and the place of its bad token or syntax fault.
 use Rattle.std.proofs.Common.{◌≡◌, ◌⊎◌, ℕ, ◌≤◌, List, [], length, Option, Some, None, refl, sym, ap, subst, ◌∙◌, inl, inr}
 use Rattle.std.proofs.lemmas.Bool.{cases_lt}
 use Rattle.ipdl_base.specs.declared.files.TheConstants.{MOST_BYTES}
 use Rattle.ipdl_base.specs.declared.finding.Place.{Place}
-use Rattle.ipdl_lex.specs.declared.token.Lexed.{Lexed}
+use Rattle.ipdl_lex.specs.declared.token.LexedText.{LexedText}
 use Rattle.ipdl_lex.specs.declared.token.LexFault.{LexFault}
 use Rattle.ipdl_lex.specs.declared.token.LexFault.TheVariants.{BadByte, OpenComment, OpenString, TooLong, NoMemory}
 use Rattle.ipdl_lex.specs.Tokens.{FailsAt, IsTokens}
@@ -33,11 +33,11 @@ fault_place rest here (OpenString place) h = (place, refl)
 fault_place rest here (TooLong place) h = (place, refl)
 fault_place rest here NoMemory h = absurd h
 
--- the file of this number and key, which holds these bytes, if any, is read as something
+-- the file of this number and key, which contains these bytes, if any, has some content
 abbrev pub HasContent : ℕ → List ℕ → Option (List ℕ) → Type 0
 HasContent number key held = (content : Content) × IsContent number key held content
 
-by_tokens : (number : ℕ) (key bytes : List ℕ) → Kinded key → length bytes ≤ MOST_BYTES → (lexed : Lexed) → IsTokens number bytes lexed → HasContent number key (Some bytes)
+by_tokens : (number : ℕ) (key bytes : List ℕ) → Kinded key → length bytes ≤ MOST_BYTES → (lexed : LexedText) → IsTokens number bytes lexed → HasContent number key (Some bytes)
 by_tokens number key bytes (kind, is_kind) small lexed tokens = elim (tokens_have_answers kind lexed.tokens lexed.end) [
   | inl tree ↦ (Read tree.0, record { bytes = bytes; has = refl; small = small; lexed = lexed; tokens = tokens; kind = kind; is_kind = is_kind; tree = tree.1 })
   | inr fault ↦ (
@@ -85,21 +85,21 @@ module _ (number : ℕ) (key : List ℕ) (held : Option (List ℕ)) where
   unit_by (SyntaxFault place) is = inr (λ unit u. let e = (unit_is answers number key held (SyntaxFault place) unit is u).1 in cc)
   unit_by (Read unit) is = inl (unit, is)
 
-  -- the file has a tree, or none
+  -- the file has a tree, or has no tree
   pub unit_or_none : ((unit : FileUnit) × IsUnitOf number key held unit) ⊎ ((unit : FileUnit) → IsUnitOf number key held unit → ⊥)
   unit_or_none = elim (kind_or_none key) [
     | inl kinded ↦ (let c = content_of number key held kinded in unit_by c.0 c.1)
     | inr none ↦ inr (λ unit u. none u.kind u.is_kind)
   ]
 
-  -- two trees of it are the same up to where their boxes lie
+  -- two trees of the file are the same up to where their boxes lie
   pub one_unit : (one other : FileUnit) → IsUnitOf number key held one → IsUnitOf number key held other → unboxed one ≡ unboxed other
   one_unit one other is also =
       let found = unit_is answers number key held (Read other) one also is in
       let same : other ≡ found.0 = (let e = found.1 in cc) in
       found.2 ∙ ap unboxed (sym same)
 
-  -- the file names some keys
+  -- the file names a list of keys
   pub names_exist : (named : List (List ℕ)) × Names number key held named
   names_exist = elim unit_or_none [ inl found ↦ (named_keys found.0.includes, inl (found.0, found.1, refl)) | inr none ↦ ([], inr (none, refl)) ]
 

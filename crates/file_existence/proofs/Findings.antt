@@ -29,7 +29,7 @@ use Rattle.file_existence.proofs.OfFiles.{of_files, of_includes, of_units}
 differ_or_not : (one other : List ℕ) → (one ≢ other) ⊎ ((one ≢ other) → ⊥)
 differ_or_not one other = by_test (is_same one other) (λ same. inr (λ differ. differ (same_is one other same))) (λ differ. inl (other_is one other differ))
 
--- its name stands there, and its key has another
+-- the protocol's name is at the place, and the file's key has another name
 abbrev Misnamed : List ℕ → Place → Option ProtocolDecl → Type 0
 Misnamed key place held = IsSomeAnd held (λ p. (p.place ≡ place) × (short_name p.full ++ ending file.Protocol ≢ key))
 

@@ -1,4 +1,4 @@
--- What words reach breaks something, or makes a program.
+-- The files that words reach break a rule, or make a program.
 use Rattle.std.proofs.Common.{◌⊎◌, ℕ, List, [], ◌∷◌, Contains, map, refl, inl, inr}
 use Rattle.std.specs.Prelude.{◌↔◌}
 use Rattle.ipdl_base.specs.declared.finding.Finding.{Finding}

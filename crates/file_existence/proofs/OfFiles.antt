@@ -1,4 +1,4 @@
--- Lists of the places at which something holds of some file, or of some file's tree.
+-- Lists of the places at which some file, or the tree of some file, has a property.
 use Rattle.std.proofs.Common.{◌≡◌, ◌⊎◌, ℕ, zero, suc, List, [], ◌∷◌, Any, refl, sym, subst, inl, inr}
 use Rattle.std.specs.Prelude.{◌↔◌}
 use Rattle.std.proofs.lemmas.Option.{same_Some}
@@ -33,7 +33,7 @@ of_files (key ∷ keys) Holds each =
     (λ p. of_either key keys (λ n k. Holds n k p)) (λ p. first_or_later key keys (λ n k. Holds n k p))
     (either_place (Holds 0 key) (λ p. OfFile keys (λ n k. Holds (suc n) k p)) (each 0 key) (of_files keys (λ n. Holds (suc n)) (λ n k. each (suc n) k)))
 
--- what holds of a tree wherever its boxes lie
+-- a property of a tree that does not depend on where its boxes lie
 pub of_units : (given : LoadInput) (keys : List (List ℕ)) (Holds : List ℕ → FileUnit → Place → Type 0)
     → ((key : List ℕ) (unit : FileUnit) (p : Place) → Holds key unit p ↔ Holds key (unboxed unit) p)
     → ((key : List ℕ) (unit : FileUnit) → IsListed (Holds key unit)) → IsListed (λ p. OfUnit given keys (λ key unit. Holds key unit p))
@@ -50,7 +50,7 @@ of_units given keys Holds plain each = of_files keys InFile in_file
       | inr none ↦ no_place (InFile number key) (λ p h. none h.0 h.1)
     ]
 
--- includes that name a key of which this holds
+-- includes that name a key with this property
 pub of_includes : (given : LoadInput) (keys : List (List ℕ)) (D : List ℕ → Type 0) → ((key : List ℕ) → D key ⊎ (D key → ⊥)) → IsListed (λ p. OfUnit given keys (λ _. IncludesAt p D))
 of_includes given keys D decide =
     of_units given keys (λ _ unit p. IncludesAt p D unit) (λ key unit p. ((λ h. h), (λ h. h)))

@@ -19,11 +19,11 @@ use Rattle.ipdl_lex.proofs.Classes.{piece_nonempty, slash_piece, slash-class}
 use Rattle.ipdl_lex.proofs.Fronts.{blank_at, bad_byte, line_at, block_at, open_comment_at, quoted_at, open_string_at, no_quote-end, no_quote-line, double_at, mark_at, word_taken, word_front}
 use Rattle.ipdl_lex.proofs.Words.{reserved_decided}
 
--- a piece is at the front of the text
+-- the text begins with a piece
 abbrev pub HasFront : List ℕ → Type 0
 HasFront text = (kind : Option TokenKind) × (len : ℕ) × IsFront text kind len
 
--- the text fails at its front, which stands at this place
+-- the text fails at its beginning, which is at this place
 abbrev pub Fails : List ℕ → Place → Type 0
 Fails text here = (fault : LexFault) × FailsAt text here fault
 
@@ -51,7 +51,7 @@ by_quote text here (Some n) h e =
     (λ quote. inl (Some Quoted, n + 2, quoted_at text (drop 1 text) n refl h e (eqb-true (get_or (drop 1 text) n 0) 34 quote)))
     (λ other. inr (OpenString here, (refl, open_string_at text (drop 1 text) refl h (no_quote-line (drop 1 text) n e (eqb-false (get_or (drop 1 text) n 0) 34 other)))))
 
--- the first number below a bound of which this holds, or none
+-- the first number below a bound with this property, or no such number
 first_below : (Holds : ℕ → Type 0) → ((k : ℕ) → Holds k ⊎ (Holds k → ⊥)) → (bound : ℕ)
     → ((n : ℕ) × Holds n × ((k : ℕ) → k < n → Holds k → ⊥)) ⊎ ((k : ℕ) → k < bound → Holds k → ⊥)
 first_below Holds decide zero = inr (λ k below h. omega arith)

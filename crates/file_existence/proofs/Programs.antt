@@ -1,4 +1,4 @@
--- Where the files of a reach break nothing they make a program.
+-- If the files of a reach break no rule, they make a program.
 use Rattle.std.proofs.Common.{◌≡◌, ◌≢◌, ℕ, zero, suc, ◌<◌, List, [], ◌∷◌, ◌++◌, Any, Contains, length, get_or, map, Option, Some, None, is_some, refl, sym, ap, subst, ◌∙◌, inl, inr, arith}
 use Rattle.std.specs.Prelude.{slice_get, IfSome, IsSomeAnd, option_map, unwrap_or}
 use Rattle.std.specs.List.{AllByRecursion}
@@ -51,7 +51,7 @@ numbers keys (key ∷ named) there =
     let rest = numbers keys named (λ k c. there k (contains_more key named k (inr c))) in
     (here.0 ∷ rest.0, (λ i. slice_get_read keys _ here.0 key refl here.1 (sym here.2) i ∷ rest.1 i), (here.1, rest.2))
 
--- for each element of a list there is one of another, so there is that list
+-- if each element of a list has one of another kind, there is a list of these
 
 at_first : {Y : Type 0} (R : ℕ → Y → Type 0) (y : Y) (ys : List Y) → R 0 y → ((n : ℕ) (z : Y) → slice_get ys n ≡ Some z → R (suc n) z) → (n : ℕ) (z : Y) → slice_get (y ∷ ys) n ≡ Some z → R n z
 at_first R y ys first others zero z e = subst (R 0) (same_Some y z e) first
@@ -81,7 +81,7 @@ module _ (given : LoadInput) (keys : List (List ℕ)) (words : AreFileWords give
       clean (finding_at rule.FILE_NOT_FOUND i.1.place)
       (inr (inr (inl (refl, inr (by.number, by.by, by.at, (by.unit, by.is_unit, (i.0, i.1, slice_get_within by.unit.includes i.0 i.1 i.2, get_or_from_slice_get by.unit.includes i.0 i.1 i.1 i.2, (refl, here))))))))
 
-  -- and its file has a tree
+  -- the file of an entry has a tree
   unit_at : (number : ℕ) (key : List ℕ) → slice_get keys number ≡ Some key → (unit : FileUnit) × IsUnitOf number key (content given key) unit
   unit_at number key at = let source = source_of given keys reach number key at in let c = content_of number key (content given key) (kinded given keys key words source) in by c.0 c.1 source
     where
@@ -92,7 +92,7 @@ module _ (given : LoadInput) (keys : List (List ℕ)) (words : AreFileWords give
       by (SyntaxFault place) is source = absurd (clean (finding_at rule.SYNTAX_FAULT place) (inr (inl (refl, (number, key, at, is)))))
       by (Read unit) is source = (unit, is)
 
-  -- what it names is in the list
+  -- the keys that a file names are in the list
   reached : (number : ℕ) (key : List ℕ) (unit : FileUnit) → slice_get keys number ≡ Some key → IsUnitOf number key (content given key) unit → (named : List ℕ) → Contains (named_keys unit.includes) named → Contains keys named
   reached number key unit at is named c = elim (found_or_not keys named) [
     | inl there ↦ there
@@ -105,7 +105,7 @@ module _ (given : LoadInput) (keys : List (List ℕ)) (words : AreFileWords give
         )
   ]
 
-  -- so it has an entry
+  -- so the file has an entry
   entry_at : (number : ℕ) (key : List ℕ) → slice_get keys number ≡ Some key → (entry : Entry) × (entry.key ≡ key) × IsMade given keys number entry
   entry_at number key at =
       let u = unit_at number key at in
@@ -141,7 +141,7 @@ module _ (given : LoadInput) (program : List Entry) (reach : IsReach given (keys
     entries = entry_is;
   }
 
-  -- a protocol of another name would be misnamed
+  -- a protocol with another name would be misnamed
   bears : (number : ℕ) (entry : Entry) → slice_get program number ≡ Some entry → (held : Option ProtocolDecl) → entry.unit.protocol ≡ held → IfSome held (λ p. entry.key ≡ short_name p.full ++ ending file.Protocol)
   bears number entry at None is = tt
   bears number entry at (Some p) is =

@@ -1,4 +1,4 @@
--- The walk over what files name ends, since there are at most 4,096 keys.
+-- The walk over the keys that files name ends, since there are at most 4,096 keys.
 use Rattle.std.proofs.Common.{◌≡◌, ◌⊎◌, inl, inr, ℕ, zero, suc, ◌+◌, ◌<◌, ◌≤◌, List, [], ◌∷◌, ◌++◌, length, take, refl, sym, ◌∙◌, ap, subst, arith, append_assoc, append-nil, length-append}
 use Rattle.std.specs.Prelude.{Some, slice_get}
 use Rattle.std.specs.List.{Contains, list_any}
@@ -21,7 +21,7 @@ use Rattle.include_graph.proofs.WordKeys.{words_old, words_new}
 use Rattle.file_existence.specs.Laws.{ReachesExist}
 use Rattle.file_existence.proofs.Contents.{names_exist}
 
--- the keys of words, and beside each the first word that has it
+-- the keys of words, each with the first word that has it
 abbrev pub WordsHave : List (List ℕ) → Type 0
 WordsHave words = (list : List (List ℕ)) × (firsts : List (List ℕ)) × HasWords words list firsts
 
@@ -84,7 +84,7 @@ module _ (given : LoadInput) (keys : List (List ℕ)) (rows : List (List (List �
       let old = there_is keys number (omega (arith, within)) in
       old.1 ∙ sym (key_more keys row number old.0 old.1) ∙ e
 
-  -- and so does what is named before one of them
+  -- the names before one of them stay too
   row_stays : (number : ℕ) (k : List ℕ) (r : List (List ℕ)) → number ≤ length rows → IsRow given rows number k r → IsRow given (rows ++ row ∷ []) number k r
   row_stays number k r below is = record {
     names = is.names;

@@ -42,7 +42,7 @@ word_known words key c =
     let z = zip_at (λ k v. word_of words k ≡ Some v) w.0 w.1 d.0 key w.2.first (slice_get_read w.0 _ d.0 key refl d.1 (sym d.2)) in
     (z.0, z.2)
 
--- what rows name is named by one of them
+-- a key that rows name is named by one of them
 by_row : (rows : List (List (List ℕ))) (key : List ℕ) → Contains (all_named rows) key → (n : ℕ) × (row : List (List ℕ)) × (slice_get rows n ≡ Some row) × Contains row key
 by_row [] key c = absurd (in_none key c)
 by_row (row ∷ rows) key c = elim (Contains-append_cases row (all_named rows) key c) [
@@ -66,7 +66,7 @@ source_of given keys reach number key at = elim (reach.reached.earlier number ke
       )
 ]
 
--- so it ends as the names of files do
+-- so the text ends as the names of files do
 ended : (given : LoadInput) (keys : List (List ℕ)) (key : List ℕ) → AreFileWords given.words → Source given keys key → IsFileWord key
 ended given keys key files (inl (word, e)) =
     let found = word_found given.words key word e in

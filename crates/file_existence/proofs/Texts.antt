@@ -5,9 +5,9 @@ use Rattle.ipdl_base.specs.declared.finding.Place.{Place}
 use Rattle.ipdl_base.specs.declared.token.Token.{Token}
 use Rattle.ipdl_base.specs.declared.token.TokenKind.{TokenKind}
 use Rattle.ipdl_lex.specs.declared.token.LexFault.TheVariants.{TooLong}
-use Rattle.ipdl_lex.specs.Places.{place_behind}
+use Rattle.ipdl_lex.specs.Places.{place_after}
 use Rattle.ipdl_lex.specs.Tokens.{IsShortOf, token_at}
-use Rattle.ipdl_lex.specs.Scan.{IsFront, behind_bytes}
+use Rattle.ipdl_lex.specs.Scan.{IsFront, after_bytes}
 use Rattle.ipdl_lex.proofs.Classes.{piece_nonempty}
 use Rattle.ipdl_lex.proofs.Fronts.{too_long}
 use Rattle.ipdl_lex.proofs.Steps.{Reaches, Reaches-start, Reaches-step, IsTokens-done, IsFault-reached}
@@ -27,13 +27,13 @@ short_or_long rest here (Some kind) len front = elim (cases_lt 256 len) [
   | inr short ↦ inl (let e = length-take-le len rest front.fits in omega arith)
 ]
 
--- a text that is cut down to a rest of at most so many bytes
+-- a text that is cut up to a rest of at most this number of bytes
 cut_on : (most file : ℕ) (text : List ℕ) (tokens : List Token) (here : Place) (rest : List ℕ) → length rest ≤ most → Reaches file text tokens here rest → HasTokens file text ⊎ HasFault file text
 cut_on most file text tokens here [] enough reached = inl (record { tokens = tokens; end = here }, IsTokens-done file text tokens here [] tokens reached refl refl)
 cut_on zero file text tokens here (b ∷ bs) enough reached = absurd (omega arith)
 cut_on (suc most) file text tokens here (b ∷ bs) enough reached = elim (front_or_fault b bs here) [
   | inl (kind, len, front) ↦ elim (short_or_long (b ∷ bs) here kind len front) [
-    | inl short ↦ cut_on most file text (tokens ++ token_at here kind (take len (b ∷ bs))) (behind_bytes here (take len (b ∷ bs))) (drop len (b ∷ bs))
+    | inl short ↦ cut_on most file text (tokens ++ token_at here kind (take len (b ∷ bs))) (after_bytes here (take len (b ∷ bs))) (drop len (b ∷ bs))
         (let some = some_byte (b ∷ bs) kind len front in let left = length-drop len (b ∷ bs) in omega arith)
         (Reaches-step file text tokens here (b ∷ bs) kind len reached front short)
     | inr fails ↦ inr (fails.0, IsFault-reached file text tokens here (b ∷ bs) fails.0 reached fails.1)
@@ -42,4 +42,4 @@ cut_on (suc most) file text tokens here (b ∷ bs) enough reached = elim (front_
 ]
 
 pub texts_have_answers : TextsHaveAnswers
-texts_have_answers file text = cut_on (length text) file text [] (place_behind file []) text (le_refl (length text)) (Reaches-start file text)
+texts_have_answers file text = cut_on (length text) file text [] (place_after file []) text (le_refl (length text)) (Reaches-start file text)

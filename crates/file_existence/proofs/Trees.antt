@@ -11,7 +11,7 @@ use Rattle.ipdl_parse.proofs.Whole.{taken_tree}
 use Rattle.file_existence.specs.Laws.{HasSyntaxPlace, TokensHaveAnswers, FilesHaveAnswers}
 use Rattle.file_existence.proofs.Texts.{texts_have_answers}
 
--- a token has a place, and the end has one
+-- a token has a place, and the end has a place
 place_of : (end : Place) (token : Option Token) → (place : Place) × MatchOption token (place ≡ end) (λ t. place ≡ t.place)
 place_of end None = (end, refl)
 place_of end (Some t) = (t.place, refl)

@@ -31,12 +31,12 @@ a_quote = (
   },
 )
 
--- no token is a header
+-- the empty list of tokens is a header
 empty_header : HasTree file.Header []
 unfolding refusal
 empty_header = taken_tree file.Header [] refl
 
--- but no protocol file, and the syntax place is the end
+-- the empty list of tokens is not a protocol file, and the syntax place is the end
 empty_protocol : (end : Place) → HasSyntaxPlace file.Protocol [] end
 unfolding refusal
 empty_protocol end = record { none = refuses_tree file.Protocol [] 0 refl; index = 0; longest = refuses_at_place file.Protocol [] 0 refl; place = end; here = refl }

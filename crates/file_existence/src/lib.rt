@@ -1,5 +1,6 @@
-//! That files have an answer: each text has tokens or a first fault, all tokens have a tree or a
-//! syntax place, and what words reach breaks some rules, or makes a program. No function that runs.
+//! Laws that files have an answer: each text has tokens or a first fault, every list of tokens has
+//! a tree or a syntax place, and the files that words reach break some rules, or make a program.
+//! There is no function that runs.
 #![tactic(auto)]
 
 mod laws;

@@ -2,14 +2,14 @@
 use Rattle.std.specs.Prelude.{◌≡◌, ℕ, List, Option, Some, None, refl}
 use Rattle.std.specs.Coded.{Coded, code_by, coded×, coded_ℕ, coded_list, coded_option}
 
--- what was found: no file, a file of more bytes than were asked for, all bytes of one, or nothing since the read failed
+-- the result of a read: no file, a file of more bytes than were asked for, all bytes of a file, or that the read failed
 pub data Found : Type 0 where
   NoFile : Found
   MoreBytes : Found
   AllBytes : (bytes : List ℕ) → Found
   Failed : Found
 
--- what a read of a name found, where at most so many bytes were asked for
+-- the result of a read of a name that asked for at most this number of bytes
 pub record ReadEntry : Type 0 where
   pub name : List ℕ
   pub limit : ℕ

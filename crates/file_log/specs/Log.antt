@@ -1,4 +1,4 @@
--- What reads gave, and the maps of files that agree with it.
+-- The log of reads, and the maps of files that agree with it.
 use Rattle.std.specs.Prelude.{◌≡◌, ◌≢◌, ℕ, ◌≤◌, List, [], ◌∷◌, ◌++◌, length, Option, Some, None, Result, Ok, Err, IfSome}
 use Rattle.std.specs.List.{AllByRecursion}
 use Rattle.ipdl_base.specs.declared.files.FileBytes.{FileBytes}
@@ -18,25 +18,25 @@ found_of Absent = NoFile
 found_of Larger = MoreBytes
 found_of (Bytes bytes) = AllBytes bytes.items
 
--- what a read puts into the log: what it found, or that it failed; and nothing where it ran out of memory
+-- the entries that a read adds to the log: its result, or no entry if it ran out of memory
 abbrev pub entries_of : List ℕ → ℕ → Result FileBytes Failure → List ReadEntry
 entries_of name limit (Ok found) = record { name = name; limit = limit; found = found_of found } ∷ []
 entries_of name limit (Err ReadFault) = record { name = name; limit = limit; found = Failed } ∷ []
 entries_of name limit (Err NoMemory) = []
 
--- what is held is what was found; of a read that failed nothing was
+-- the file of the map agrees with the result of the read; it agrees with no failed read
 abbrev pub IsFound : ℕ → Option (List ℕ) → Found → Type 0
 IsFound most held NoFile = held ≡ None
 IsFound most held MoreBytes = HasMore most held
 IsFound most held (AllBytes bytes) = (held ≡ Some bytes) × (length bytes ≤ most)
 IsFound most held Failed = ⊥
 
--- none of the reads failed, and the map has at each name what the read of it found
+-- no read failed, and the map agrees at each name with the result of its read
 abbrev pub Agrees : FileMap → List ReadEntry → Type 0
 Agrees files reads = AllByRecursion (λ entry. IsFound entry.limit (files entry.name) entry.found) reads
 
--- The reads between two moments, by which the log grew: a map that is told agrees with them, and so does some map in any
--- case; and this holds for every map that agrees with them.
+-- The reads between two moments, by which the log grew: a known map agrees with them, and in any case some map does; and
+-- this property holds for every map that agrees with them.
 pub record ForReads (told : Option FileMap) (old new : List ReadEntry) (P : FileMap → Type 0) : Type 0 where
   pub reads : List ReadEntry
   pub logged : new ≡ old ++ reads
@@ -44,17 +44,17 @@ pub record ForReads (told : Option FileMap) (old new : List ReadEntry) (P : File
   pub consistent : (files : FileMap) × Agrees files reads
   pub each : (files : FileMap) → Agrees files reads → P files
 
--- The reads between two moments are of names of which this holds.
+-- The names of the reads between two moments have this property.
 pub record HaveNames (IsOne : List ℕ → Type 0) (old new : List ReadEntry) : Type 0 where
   pub reads : List ReadEntry
   pub logged : new ≡ old ++ reads
   pub names : AllByRecursion (λ entry. IsOne entry.name) reads
 
--- none of the reads failed
+-- no read failed
 abbrev pub NoneFailed : List ReadEntry → Type 0
 NoneFailed reads = AllByRecursion (λ entry. entry.found ≢ Failed) reads
 
--- None of the reads between two moments failed.
+-- No read between two moments failed.
 pub record HaveSucceeded (old new : List ReadEntry) : Type 0 where
   pub reads : List ReadEntry
   pub logged : new ≡ old ++ reads
@@ -68,7 +68,7 @@ pub record HasFailedLast (old new : List ReadEntry) : Type 0 where
   pub none : NoneFailed before
   pub failed : last.found ≡ Failed
 
--- How a call that reads ends: with a fault of a read exactly where a read failed, and then nothing was read after it.
+-- How a call that reads ends: with a fault of a read exactly if a read failed, and then nothing was read after it.
 abbrev pub EndsWithReads : {X : Type 0} → Result X Failure → List ReadEntry → List ReadEntry → Type 0
 EndsWithReads (Ok value) old new = HaveSucceeded old new
 EndsWithReads (Err ReadFault) old new = HasFailedLast old new

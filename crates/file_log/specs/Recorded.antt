@@ -1,9 +1,9 @@
--- What clauses read of recorded files.
+-- The parts of recorded files that contracts use.
 use Rattle.std.specs.Prelude.{List}
 use Rattle.file_log.specs.Entries.{ReadEntry}
 use Rattle.file_log.specs.declared.recorded_files.RecordedFiles.{RecordedFiles}
 
--- what their reads gave so far, in order
+-- the results of the reads so far, in order
 abbrev pub reads_of : {F : Type 0} → RecordedFiles F → List ReadEntry
 reads_of recorded = recorded.log.entries
 

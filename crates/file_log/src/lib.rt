@@ -1,5 +1,5 @@
-//! Files whose reads are recorded: what the reads of a call gave, as a list that only contracts see (docs/theorems.md,
-//! "The outside"). The list takes no memory, and nothing of it is there when the program runs.
+//! Files whose reads are recorded, in a list that only contracts see (docs/theorems.md, "The outside"). The list takes no
+//! memory and does not exist when the program runs.
 #![tactic(auto)]
 
 mod read_log;

@@ -6,7 +6,7 @@ ghost use Rattle.file_log.specs.Entries.{ReadEntry, log_code};
 use ipdl_base::{Failure, FileBytes};
 use std::marker::Model;
 
-/// What reads gave, in order, as contracts see it. A value of this type has no bytes.
+/// The results of reads, in order. Only contracts see them, and a value of this type has no bytes.
 #[derive(Drop)]
 pub struct ReadLog {
     pub ghost entries: { List ReadEntry } by { log_code },
@@ -16,11 +16,14 @@ impl Model for ReadLog {
     ghost also_owns = { λ _. ftrue };
 }
 
-/// One read: its name, the most bytes that were asked for, and what came of it.
+/// One read: its name, the most bytes that it asks for, and its result.
 #[derive(Clone, Copy, Drop)]
 pub struct FileRead<'r> {
+    /// The name that is read.
     pub name: &'r str,
+    /// The most bytes that the read gives.
     pub limit: usize,
+    /// The result of the read.
     pub found: &'r Result<FileBytes, Failure>,
 }
 
@@ -37,7 +40,7 @@ impl ReadLog {
         ReadLog {}
     }
 
-    /// Gives the log of these reads and then this one, which is left out where it ran out of memory.
+    /// Returns the log of these reads and then this one, which is left out if it ran out of memory.
     pub fn then(&self, _read: &FileRead<'_>) -> ReadLog
         ensures { result.entries ≡ self.now.entries ++ entries_of _read.now.name.now _read.now.limit _read.now.found.now }
     {

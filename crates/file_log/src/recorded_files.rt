@@ -1,13 +1,13 @@
-//! Files of any kind with a record of their reads.
+//! Files of any kind, with a record of their reads.
 ghost use Rattle.std.specs.Prelude.{◌≡◌, ◌≤◌, ◌++◌, [], Err, IfOk, IfSome};
 ghost use Rattle.ipdl_base.specs.Outside.{HasAtMost, IsHeldWithin, Rose};
 ghost use Rattle.file_log.specs.Log.{entries_of};
 
 use crate::read_log::{FileRead, ReadLog};
-use ipdl_base::{Failure, FileBytes, Files, MemoryFiles};
+use ipdl_base::{Failure, FileBytes, Files};
 use std::alloc::Global;
 
-/// Files, and what their reads gave. Each read goes through `read`, which records it.
+/// Files with the results of their reads. Each read goes through `read`, which records it.
 #[derive(Drop)]
 pub struct RecordedFiles<F> {
     files: F,
@@ -15,10 +15,10 @@ pub struct RecordedFiles<F> {
 }
 
 // The record adds nothing to the size of the files.
-const _: () = prove!(size_of::<RecordedFiles<MemoryFiles>>() == size_of::<MemoryFiles>());
+const _: () = prove!(size_of::<RecordedFiles<u64>>() == size_of::<u64>());
 
 impl<F: Files> RecordedFiles<F> {
-    /// Wraps files of which nothing was read yet.
+    /// Wraps files with an empty record.
     pub fn new(files: F) -> RecordedFiles<F>
         ensures files { result.files ≡ files }
         ensures log { result.log.entries ≡ [] }
@@ -36,17 +36,17 @@ impl<F: Files> RecordedFiles<F> {
         &self.files
     }
 
-    /// Reads the file of this name, of which at most `limit` bytes are given, and records what came of it.
+    /// Reads the file of this name, gives at most `limit` bytes of it, and records the result.
     ///
     /// # Errors
     ///
-    /// Those of the read: `Failure::ReadFault` where it failed, which is recorded, and `Failure::NoMemory`, which is not.
+    /// `Failure::ReadFault` if the read failed, which is recorded, and `Failure::NoMemory` if memory ran out, which is not.
     pub fn read(&mut self, alloc: Global, name: &str, limit: usize) -> Result<FileBytes, Failure>
-        ensures map { F.told self.new.files ≡ F.told self.old.files }
+        ensures map { F.known self.new.files ≡ F.known self.old.files }
         ensures count { F.faults self.old.files ≤ F.faults self.new.files }
         ensures failed { result ≡ Err Failure.ReadFault → Rose (F.faults self.old.files) (F.faults self.new.files) }
         ensures small { IfOk result (HasAtMost limit) }
-        ensures held { IfOk result (λ found. IfSome (F.told self.old.files) (λ files. IsHeldWithin limit (files name.now) found)) }
+        ensures held { IfOk result (λ found. IfSome (F.known self.old.files) (λ files. IsHeldWithin limit (files name.now) found)) }
         ensures logged { self.new.log.entries ≡ self.old.log.entries ++ entries_of name.now limit result }
     {
         let found = self.files.read(alloc, name, limit);

@@ -11,11 +11,11 @@ use Rattle.findings.specs.Adds.{Adds}
 use Rattle.findings.proofs.Elements.{any_cases, any_left}
 use Rattle.findings.proofs.Same.{same_finding}
 
--- nothing is added where it holds nowhere
+-- nothing is added if the property holds nowhere
 pub Adds-none : (rule : Rule) (P : Place → Type 0) (old : List Finding) → ((place : Place) → ¬ P place) → Adds rule P old old
 Adds-none rule P old none = record { exact = λ f. (λ h. inl h, λ h. elim h [ inl a ↦ a | inr b ↦ absurd (none f.place b.1) ]) }
 
--- the same, said by another word
+-- the same, in other words
 pub Adds-like : (rule : Rule) (P Q : Place → Type 0) (old new : List Finding) → Adds rule P old new → ((place : Place) → P place → Q place) → ((place : Place) → Q place → P place) → Adds rule Q old new
 Adds-like rule P Q old new adds to back = record {
   exact = λ f. (
@@ -24,7 +24,7 @@ Adds-like rule P Q old new adds to back = record {
   );
 }
 
--- one finding more
+-- one more finding
 pub Adds-push : (rule : Rule) (at : Place) (old : List Finding) → Adds rule (λ place. at ≡ place) old (old ++ record { place = at; rule = rule } ∷ [])
 Adds-push rule at old =
     let x : Finding = record { place = at; rule = rule } in
@@ -38,7 +38,7 @@ Adds-push rule at old =
       );
     }
 
--- one gain, and another behind it
+-- one gain, and another after it
 pub Adds-then : (rule : Rule) (P Q : Place → Type 0) (a b c : List Finding) → Adds rule P a b → Adds rule Q b c → Adds rule (λ place. P place ⊎ Q place) a c
 Adds-then rule P Q a b c one two = record {
   exact = λ f. (

@@ -14,11 +14,11 @@ use Rattle.findings.proofs.Elements.{any_cases, any_left}
 use Rattle.findings.proofs.Indexed.{AtSome-cases, AtSome-left, AtSome-push}
 use Rattle.findings.proofs.Same.{same_finding}
 
--- nothing is gained where nothing holds
+-- nothing is gained if the property holds nowhere
 pub Gains-none : (P : Finding → Type 0) (old new : List Finding) → ((f : Finding) → ¬ P f) → new ≡ old → Gains P old new
 Gains-none P old new none same = rw same (record { exact = λ f. (λ h. inl h, λ h. elim h [ inl a ↦ a | inr b ↦ absurd (none f b) ]) })
 
--- the same, said by another word
+-- the same, in other words
 pub Gains-like : (P Q : Finding → Type 0) (old new : List Finding) → Gains P old new → ((f : Finding) → P f → Q f) → ((f : Finding) → Q f → P f) → Gains Q old new
 Gains-like P Q old new gains to back = record {
   exact = λ f. (
@@ -27,7 +27,7 @@ Gains-like P Q old new gains to back = record {
   );
 }
 
--- one finding more
+-- one more finding
 pub Gains-push : (rule : Rule) (at : Place) (old new : List Finding) → new ≡ old ++ record { place = at; rule = rule } ∷ [] → Gains (λ f. (f.rule ≡ rule) × (at ≡ f.place)) old new
 Gains-push rule at old new e =
     let x : Finding = record { place = at; rule = rule } in
@@ -42,7 +42,7 @@ Gains-push rule at old new e =
       );
     })
 
--- one gain, and another behind it
+-- one gain, and another after it
 pub Gains-then : (P Q : Finding → Type 0) (a b c : List Finding) → Gains P a b → Gains Q b c → Gains (λ f. P f ⊎ Q f) a c
 Gains-then P Q a b c one two = record {
   exact = λ f. (
@@ -89,10 +89,10 @@ Gains-at_more {X} P xs i d a b c lt one two =
     (λ f h. elim h [ inl x ↦ AtSome-left (P f) (take i xs) y x | inr z ↦ AtSome-push (P f) (take i xs) y (let Q : ℕ → Type 0 = λ n. P f n y in subst Q (sym long) z) ])
     (λ f h. elim (AtSome-cases (P f) (take i xs) y h) [ inl x ↦ inl x | inr z ↦ inr (let Q : ℕ → Type 0 = λ n. P f n y in subst Q long z) ]))
 
--- the findings of what an option holds
+-- the findings of the value of an option
 pub Gains-of_some : {X : Type 0} (P : Finding → X → Type 0) (o : Option X) (x : X) (old new : List Finding) → o ≡ Some x → Gains (λ f. P f x) old new → Gains (λ f. IsSomeAnd o (P f)) old new
 Gains-of_some {X} P o x old new e gains = let Q : Option X → Type 0 = λ o. Gains (λ f. IsSomeAnd o (P f)) old new in subst Q (sym e) gains
 
--- or of nothing
+-- or of no value
 pub Gains-of_none : {X : Type 0} (P : Finding → X → Type 0) (o : Option X) (old new : List Finding) → o ≡ None → new ≡ old → Gains (λ f. IsSomeAnd o (P f)) old new
 Gains-of_none {X} P o old new e same = Gains-none (λ f. IsSomeAnd o (P f)) old new (λ f h. let Q : Option X → Type 0 = λ o. IsSomeAnd o (P f) in subst Q e h) same

@@ -1,4 +1,4 @@
--- Two lists in strict order with the same elements are one.
+-- Two lists in strict order with the same elements are the same.
 use Rattle.std.proofs.Common.{◌≡◌, ◌+◌, List, [], ◌∷◌, ◌⊎◌, inl, inr, refl, sym, ◌∙◌, ap, subst, zero, suc, arith, Ordering, Less}
 use Rattle.std.specs.Cmp.{IsTotalOrder}
 use Rattle.std.specs.List.{Contains}

@@ -1,4 +1,4 @@
--- Names that stand a second time, when one more name stands behind them.
+-- Repeated names, when one more name is appended.
 use Rattle.std.proofs.Common.{◌≡◌, ℕ, ◌+◌, ◌<◌, ◌≤◌, Bool, true, false, not, cond, List, [], ◌∷◌, ◌++◌, length, take, get_or, map, Bor, ◌⊎◌, inl, inr, refl, sym, ◌∙◌, ap, subst, arith}
 use Rattle.std.specs.Prelude.{nat_eq}
 use Rattle.std.specs.List.{list_any, Contains}
@@ -19,7 +19,7 @@ use Rattle.findings.specs.Repeats.{IsRepeatedAt}
 use Rattle.findings.proofs.Gains.{Adds-none, Adds-like, Adds-then, Adds-push}
 use Rattle.findings.proofs.Indexed.{slice_get-push, slice_get-left, slice_get-last}
 
--- the test of two names says whether they are the same
+-- the test of two names decides whether they are the same
 decided : (xs ys : List ℕ) → Decides (pointwise nat_eq xs ys) (xs ≡ ys)
 decided xs ys = slice_eq-Decides Decides-eqb xs ys (pointwise nat_eq xs ys) refl
 
@@ -35,12 +35,12 @@ plain_name n = (n.0.now, n.1)
 abbrev pub texts : List (List ℕ × Place) → List (List ℕ)
 texts names = map (λ n. n.0) names
 
--- the names of one more
+-- the names with one more
 texts-more : (names : List Given) (i : ℕ) (d : Given) → i < length names → texts (map plain_name (take (i + 1) names)) ≡ texts (map plain_name (take i names)) ++ (get_or names i d).0.now ∷ []
 texts-more names i d lt =
     rw (take_more names i d lt, map-append plain_name (take i names) (get_or names i d ∷ []), map-append (λ (n : List ℕ × Place). n.0) (map plain_name (take i names)) (plain_name (get_or names i d) ∷ [])) refl
 
--- a test that answers true, or leaves it to what was answered before
+-- an answer that is true, or else the earlier answer
 pub cond_true : (b x : Bool) → cond b true x ≡ true → (b ≡ true) ⊎ (x ≡ true)
 cond_true true x h = inl refl
 cond_true false x h = inr h
@@ -49,7 +49,7 @@ pub true_cond : (b x : Bool) → x ≡ true → cond b true x ≡ true
 true_cond true x h = refl
 true_cond false x h = h
 
--- what a set knows, and what it knows with one name more
+-- the answer of a test of the names, and with one more name
 pub told_more : (names : List Given) (i : ℕ) (d : Given) (q : List ℕ) (before after : Bool) → i < length names → after ≡ cond (pointwise nat_eq (get_or names i d).0.now q) true before
     → Decides before (Contains (texts (map plain_name (take i names))) q) → Decides after (Contains (texts (map plain_name (take (i + 1) names))) q)
 told_more names i d q before after lt put was =
@@ -75,7 +75,7 @@ take_texts names y k le =
     let le' : k ≤ length (texts names) = omega (arith, le, texts_long names) in
     rw (map-append (λ (n : List ℕ × Place). n.0) names (y ∷ [])) (take-append-le k (texts names) (y.0 ∷ []) le')
 
--- of the names with one more, those that repeat
+-- the repeated ones among the names with one more
 repeated_cases : (names : List (List ℕ × Place)) (y : List ℕ × Place) (place : Place) → IsRepeatedAt (names ++ y ∷ []) place → IsRepeatedAt names place ⊎ (Contains (texts names) y.0 × (y.1 ≡ place))
 repeated_cases names y place (k, x, at, told) = elim (slice_get-push names y k x at) [
   | inl e ↦ inl (k, x, e, (rw (take_texts names y k (let lt = slice_get_within names k x e in omega (arith, lt))) at told.0, told.1))
@@ -98,7 +98,7 @@ repeated_last names y place has here =
 plain-more : (names : List Given) (i : ℕ) (d : Given) → i < length names → map plain_name (take (i + 1) names) ≡ map plain_name (take i names) ++ plain_name (get_or names i d) ∷ []
 plain-more names i d lt = rw (take_more names i d lt) (map-append plain_name (take i names) (get_or names i d ∷ []))
 
--- a finding at a name that stands among those before it
+-- a finding at a name that is among those before it
 pub Adds-repeated : (rule : Rule) (names : List Given) (i : ℕ) (d : Given) (a b c : List Finding) → i < length names
     → Contains (texts (map plain_name (take i names))) (get_or names i d).0.now → c ≡ b ++ record { place = (get_or names i d).1; rule = rule } ∷ []
     → Adds rule (IsRepeatedAt (map plain_name (take i names))) a b → Adds rule (IsRepeatedAt (map plain_name (take (i + 1) names))) a c
@@ -111,7 +111,7 @@ Adds-repeated rule names i d a b c lt has more old =
     (λ place h. elim h [ inl r ↦ repeated_left before y place r | inr e ↦ repeated_last before y place has e ])
     (λ place h. elim (repeated_cases before y place h) [ inl r ↦ inl r | inr e ↦ inr e.1 ]))
 
--- none at a name that does not
+-- no finding at a name that is not
 pub Adds-new : (rule : Rule) (names : List Given) (i : ℕ) (d : Given) (a b : List Finding) → i < length names
     → ¬ Contains (texts (map plain_name (take i names))) (get_or names i d).0.now
     → Adds rule (IsRepeatedAt (map plain_name (take i names))) a b → Adds rule (IsRepeatedAt (map plain_name (take (i + 1) names))) a b
@@ -136,11 +136,11 @@ among_decided names q =
     (Decides-by_or (λ w. bytes_eq q w) (λ w. w ≡ q) (list_any (λ w. bytes_eq q w))
     (λ w. let d = bytes_eq-Decides q w in (λ h. sym (d.0 h), λ e. d.1 (sym e))) refl (λ _ _. refl) (texts (map plain_name names))))
 
--- nothing repeats where there is no name
+-- without names there is no repeated name
 pub Adds-no_name : (rule : Rule) (a : List Finding) → Adds rule (IsRepeatedAt []) a a
 Adds-no_name rule a = Adds-none rule (IsRepeatedAt []) a (λ place (k, x, at, h). let no : ⊥ = cc in no)
 
--- what was not put in anew was there
+-- an element that was not new was there before
 pub was_there : (added before : Bool) → added ≡ not before → added ≡ false → before ≡ true
 was_there added true told h = refl
 was_there added false told h = absurd (true≢false (sym told ∙ h))

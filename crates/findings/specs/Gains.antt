@@ -3,7 +3,7 @@ use Rattle.std.specs.Prelude.{◌≡◌, ◌↔◌, ◌⊎◌, ℕ, List, slice_
 use Rattle.std.specs.List.{Contains}
 use Rattle.ipdl_base.specs.declared.finding.Finding.{Finding}
 
--- the new list has what the old one has and the findings that hold, and no other
+-- the new list has exactly the findings of the old one and those with this property
 pub record Gains (Holds : Finding → Type 0) (old new : List Finding) : Type 0 where
   pub exact : (f : Finding) → Contains new f ↔ (Contains old f ⊎ Holds f)
 

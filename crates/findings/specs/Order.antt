@@ -20,6 +20,6 @@ rule_cmp a b = ordering_then (nat_cmp a.letter b.letter) (nat_cmp a.number b.num
 abbrev pub finding_cmp : Finding → Finding → Ordering
 finding_cmp a b = ordering_then (place_cmp a.place b.place) (rule_cmp a.rule b.rule)
 
--- each finding stands before all that are greater, and none stands twice
+-- each finding is before all that are greater, and no finding is there twice
 abbrev pub IsIncreasing : List Finding → Type 0
 IsIncreasing findings = AllPairs (λ a b. finding_cmp a b ≡ Less) findings

@@ -1,6 +1,8 @@
+//! The law of the report.
+
 ghost use Rattle.findings.specs.Laws.{OneReport};
 
-/// The law of the report: two that have the same findings are the same list, whatever the rules are.
+/// The law of the report: two reports with the same findings are the same list, for all rules.
 pub fn one_report()
     ensures { OneReport }
 {}

@@ -1,4 +1,4 @@
-//! The report of any rules: of the findings that they break, each once, in one order.
+//! The report on any rules: the findings of the broken rules, each once, in one order.
 #![tactic(auto)]
 
 mod laws;

@@ -1,3 +1,5 @@
+//! Adds findings at repeated names.
+
 ghost use Rattle.std.specs.Prelude.{◌≡◌, map, OnOk};
 ghost use Rattle.std.specs.List.{list_any};
 ghost use Rattle.std.specs.Str.{bytes_eq};
@@ -11,17 +13,17 @@ use std::collections::HashSet;
 /// A name and its place.
 pub type NamePlace<'n> = (&'n [u8], Place);
 
-/// The most names of which each is compared with all before it; more than these go into a set.
+/// The most names that are compared each with all before it. If there are more, they go into a set.
 const FEW: usize = 8;
 
-/// Whether one of these names is the same as the other.
+/// Returns whether one of these names is the same as the other.
 fn is_among(names: &[NamePlace<'_>], other: &[u8]) -> bool
     ensures { result ≡ list_any (λ n. bytes_eq other.now n.0.now) names.now }
 {
     names.iter().any(|(name, _)| other == *name)
 }
 
-/// Adds the findings at names that stand earlier too, without taking memory but for these.
+/// Adds a finding at each name that is earlier in the list too. Takes memory for the findings alone.
 fn add_repeated_few(
     rule: Rule,
     names: &[NamePlace<'_>],
@@ -40,7 +42,7 @@ fn add_repeated_few(
     Ok(())
 }
 
-/// The same by a set of the names so far.
+/// Does the same with a set of the names so far.
 fn add_repeated_many(
     alloc: Global,
     rule: Rule,
@@ -61,8 +63,8 @@ fn add_repeated_many(
     Ok(())
 }
 
-/// Adds a finding of this rule at each name that stands earlier in the list too. Takes time in
-/// proportion to the list. The only error is want of memory.
+/// Adds a finding of this rule at each name that is earlier in the list too. Takes time in
+/// proportion to the list. Fails only if memory runs out.
 pub fn add_repeated(
     alloc: Global,
     rule: Rule,

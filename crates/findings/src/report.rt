@@ -1,10 +1,12 @@
+//! Sorts findings into a report.
+
 ghost use Rattle.std.specs.List.{Contains};
 ghost use Rattle.findings.specs.Report.{IsReport};
 
 use ipdl_base::{Finding, Findings, Items};
 
-/// The report of these findings: each of them once, by file, line, column, letter and number.
-/// Takes no memory.
+/// Returns the report of these findings: each of them once, in the order of file, line, column,
+/// letter and number. Takes no memory.
 pub fn sort_findings(found: Vec<Finding>) -> Findings
     ensures { IsReport (Contains found.items) result }
 {

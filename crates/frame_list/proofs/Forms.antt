@@ -1,4 +1,4 @@
--- A frame in a form does not depend on where the boxes of its values lie.
+-- A frame in a form does not depend on where the boxes of its values are.
 use Rattle.std.proofs.Common.{◌≡◌, sym}
 use Rattle.ipdl_base.specs.declared.schema.Schema.{Schema}
 use Rattle.value_types.specs.declared.layout.TheConstants.{NEW}

@@ -9,8 +9,8 @@ use Rattle.frame_list.specs.Frames.{Holds, ends, faults, frame, IsFault, placed_
 use Rattle.frame_list.specs.Steps.{WritesFrame, all_in_form, in_form}
 use Rattle.frame_list.specs.FramesTold.{Tells}
 
--- What has been found of bytes so far, and written behind a text: what is left, from this offset on, makes what the bytes
--- hold.
+-- What has been found in the bytes so far, and written after a text: what is left, from this offset on, completes the
+-- frames of the bytes.
 pub record IsCome (form : Form) (schema : Schema) (bytes before : List ℕ) (offset : ℕ) (rest after : List ℕ) : Type 0 where
   pub reached : offset + length rest ≡ length bytes
   pub frames : List PlacedMessage

@@ -1,13 +1,13 @@
--- Where a fault stands in bytes.
+-- The place of a fault in bytes.
 use Rattle.std.proofs.Common.{ℕ, ◌≤◌, Bool, true, false, List, length, Option, Some, None, arith, subst, inl, inr, lit≤}
 use Rattle.std.specs.Prelude.{if◌then◌else◌, nat_lt, not}
 use Rattle.ipdl_base.specs.declared.schema.Schema.{Schema}
 use Rattle.value_types.specs.declared.layout.Layout.{Layout}
 use Rattle.ipdl_base.specs.declared.finding.TheConstants.Rule as rule
 use Rattle.value_codec.specs.Decoding.{FrameFault}
-use Rattle.value_codec.specs.Frames.{FrameType, are_flags, is_route, is_seq, is_transaction, behind_mark, fault_of_type, fields_fault, has_mark, header_fault, header_of, header_size, type_of}
+use Rattle.value_codec.specs.Frames.{FrameType, are_flags, is_route, is_seq, is_transaction, after_mark, fault_of_type, fields_fault, has_mark, header_fault, header_of, header_size, type_of}
 
--- a fault, if there is one, stands at most so far behind
+-- a fault, if there is one, is at most at this offset
 abbrev IsWithin : ℕ → Option (ℕ × ℕ) → Type 0
 IsWithin most None = Unit {0}
 IsWithin most (Some fault) = fault.0 ≤ most
@@ -37,7 +37,7 @@ in_fields layout schema bytes =
     either 24 (nat_lt layout.most_payload header.size) (Some (0, (rule.LARGE_PAYLOAD).number)) (fault_of_type header (type_of schema header.number))
     (small 0 (rule.LARGE_PAYLOAD).number (lit≤ tt)) (by_type layout bytes (type_of schema header.number))
 
-further : (layout : Layout) (fault : Option (ℕ × ℕ)) → IsWithin 24 fault → IsWithin (header_size layout) (behind_mark layout fault)
+further : (layout : Layout) (fault : Option (ℕ × ℕ)) → IsWithin 24 fault → IsWithin (header_size layout) (after_mark layout fault)
 further layout None h = tt
 further layout (Some fault) h = omega arith
 
@@ -47,9 +47,9 @@ start most rule = omega arith
 in_header : (layout : Layout) (schema : Schema) (bytes : List ℕ) → IsWithin (header_size layout) (header_fault layout schema bytes)
 in_header layout schema bytes =
     let fields = fields_fault layout schema (header_of layout bytes) in
-    either (header_size layout) (has_mark layout bytes) (behind_mark layout fields) (Some (0, (rule.BAD_MARK).number)) (further layout fields (in_fields layout schema bytes)) (start (header_size layout) (rule.BAD_MARK).number)
+    either (header_size layout) (has_mark layout bytes) (after_mark layout fields) (Some (0, (rule.BAD_MARK).number)) (further layout fields (in_fields layout schema bytes)) (start (header_size layout) (rule.BAD_MARK).number)
 
--- a fault of a frame stands in its bytes or right behind them
+-- a fault of a frame is within its bytes or directly after them
 pub fault_within : (layout : Layout) (schema : Schema) (bytes : List ℕ) (offset rule : ℕ) → FrameFault layout schema bytes offset rule → offset ≤ length bytes
 fault_within layout schema bytes offset rule (whole, inl e) =
     let here : IsWithin (header_size layout) (Some (offset, rule)) = subst (IsWithin (header_size layout)) e (in_header layout schema bytes) in omega arith

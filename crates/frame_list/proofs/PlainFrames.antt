@@ -1,4 +1,4 @@
--- The new frames of messages do not depend on where the boxes of their values lie.
+-- The new frames of messages do not depend on where the boxes of their values are.
 use Rattle.std.proofs.Common.{◌≡◌, ◌∙◌, ◌≤◌, ℕ, List, [], ◌∷◌, ◌++◌, Bool, true, false, refl, sym, ap, subst, arith}
 use Rattle.std.specs.Prelude.{if◌then◌else◌}
 use Rattle.ipdl_base.specs.declared.message.Message.{Message}

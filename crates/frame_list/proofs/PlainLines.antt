@@ -1,4 +1,4 @@
--- The lines of frames do not depend on where the boxes of their values lie.
+-- The lines of frames do not depend on where the boxes of their values are.
 use Rattle.std.proofs.Common.{◌≡◌, ◌∙◌, List, [], ◌∷◌, ◌++◌, refl, sym, ap, codes}
 use Rattle.std.specs.Fmt.{decimal}
 use Rattle.std.specs.Option.{option_map_or}

@@ -21,7 +21,8 @@ layout_at bytes = if bytes_eq (take 4 bytes) MARK then NEW else OLD
 abbrev pub frame_rule : ℕ → Rule
 frame_rule number = record { letter = (rule.BAD_MARK).letter; number = number }
 
--- At this offset of a file stand bytes that are not empty and that no frame begins: they are less than one, or break a rule.
+-- The bytes at this offset of a file are not empty and do not begin with a frame: they are less than one, or break a
+-- rule.
 abbrev pub IsFault : Schema → ℕ → List ℕ → FrameListFault → Type 0
 IsFault schema offset bytes (Short at missing) = (at ≡ offset) × IsShort (layout_at bytes) schema bytes missing
 IsFault schema offset bytes (Broken at rule) =
@@ -30,8 +31,8 @@ IsFault schema offset bytes (Broken at rule) =
 abbrev pub placed_at : ℕ → Message → PlacedMessage
 placed_at offset message = record { offset = offset; message = message }
 
--- The bytes that stand at this offset of a file hold these messages in frames, one behind another, and then nothing or
--- bytes that no frame begins.
+-- The bytes at this offset of a file are the frames of these messages, one after another, followed by nothing, or by
+-- bytes that do not begin with a frame.
 pub data Holds (schema : Schema) : ℕ → List ℕ → List PlacedMessage → Option FrameListFault → Type 0 where
   ends : (offset : ℕ) → Holds schema offset [] [] None
   faults : (offset : ℕ) (bytes : List ℕ) (fault : FrameListFault) → bytes ≢ [] → IsFault schema offset bytes fault → Holds schema offset bytes [] (Some fault)

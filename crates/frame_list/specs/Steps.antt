@@ -1,4 +1,4 @@
--- What the code finds and writes at an offset, on its way.
+-- What the code finds and writes at an offset.
 use Rattle.std.specs.Prelude.{◌≡◌, ℕ, ◌≤◌, List, ◌++◌}
 use Rattle.std.specs.List.{flat_map}
 use Rattle.ipdl_base.specs.declared.message.Message.{Message}
@@ -27,7 +27,7 @@ IsFound schema offset bytes (found.Fault fault) = IsFault schema offset bytes fa
 abbrev pub HasNewFrame : Schema → Message → Type 0
 HasNewFrame schema message = Fits schema message × (payload_size NEW schema message ≤ 4096)
 
--- what is written of a frame in a form
+-- what is written for a frame in a form
 abbrev pub in_form : Form → Schema → PlacedMessage → List ℕ
 in_form Line schema placed = frame_line schema placed
 in_form NewFrame schema placed = new_frame schema placed
@@ -35,13 +35,13 @@ in_form NewFrame schema placed = new_frame schema placed
 abbrev pub all_in_form : Form → Schema → List PlacedMessage → List ℕ
 all_in_form form schema frames = flat_map (in_form form schema) frames
 
--- A text is longer by a frame in a form, which the bytes at an offset begin with.
+-- A text grows by a frame in a form; the bytes at an offset begin with that frame.
 pub record WritesFrame (form : Form) (schema : Schema) (offset : ℕ) (bytes before after : List ℕ) (size : ℕ) : Type 0 where
   pub message : Message
   pub begins : FrameBegins (layout_at bytes) schema bytes message size
   pub text : after ≡ before ++ in_form form schema (placed_at offset message)
 
--- what was done about the bytes at an offset
+-- what was done with the bytes at an offset
 abbrev pub IsStep : Form → Schema → ℕ → List ℕ → List ℕ → List ℕ → Step → Type 0
 IsStep form schema offset bytes before after (step.Frame size) = WritesFrame form schema offset bytes before after size
 IsStep form schema offset bytes before after (step.Fault fault) = (after ≡ before) × IsFault schema offset bytes fault

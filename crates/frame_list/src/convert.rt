@@ -1,3 +1,4 @@
+//! Writes new frames.
 ghost use Rattle.std.specs.Prelude.{◌≡◌, ◌++◌, OnOk};
 ghost use Rattle.ipdl_base.specs.Sound.{IsSound};
 ghost use Rattle.frame_list.specs.Converted.{new_frame};

@@ -1,6 +1,6 @@
-//! A file of frames: the messages that it holds, one frame behind another in either layout, told by
-//! their lines or by new frames, and where it is no list of frames; the line that says so
-//! (docs/frames.md).
+//! A file of frames: the messages in it, one frame after another in either layout, written as lines or as new
+//! frames.
+//! Where the file is not a list of frames, the line of the fault (docs/frames.md).
 #![tactic(auto)]
 
 mod convert;

@@ -1,3 +1,4 @@
+//! Finds the frame at an offset of a file.
 ghost use Rattle.std.specs.Prelude.{◌≡◌, ◌≤◌, ◌+◌, IfOk, length, take};
 ghost use Rattle.std.specs.Str.{bytes_eq};
 ghost use Rattle.ipdl_base.specs.Sound.{IsSound};
@@ -8,42 +9,44 @@ ghost use Rattle.frame_list.specs.Steps.{IsFound};
 
 use ipdl_base::{Message, Rule, Schema};
 use std::alloc::{AllocError, Global};
-use value_codec::{Decoded, decode, decode_old};
+use value_codec::{DecodeResult, decode, decode_old};
 use value_types::MARK;
 
 /// A message, and where its frame begins among the bytes of a file.
 #[derive(Drop)]
 pub struct PlacedMessage {
+    /// The offset of the frame in the file.
     pub offset: usize,
+    /// The message of the frame.
     pub message: Message,
 }
 
-/// Where a file holds no further frames.
+/// Where a file is no longer a list of frames.
 #[derive(Clone, Copy)]
 pub enum FrameListFault {
-    /// At this offset stands less than a frame: so many bytes are missing.
+    /// The bytes at this offset are less than a frame. The second number is how many bytes are missing.
     Short(usize, usize),
-    /// At this offset this rule is broken.
+    /// A rule is broken at this offset.
     Broken(usize, Rule),
 }
 
-/// What stands at an offset.
+/// What is at an offset of a file.
 #[derive(Drop)]
 pub(crate) enum FrameReading {
-    /// A frame of this message, of so many bytes.
+    /// A frame of this message, and the number of its bytes.
     Frame(Message, usize),
     /// No frame.
     Fault(FrameListFault),
 }
 
-/// Whether bytes begin with the mark of the new layout.
+/// Returns whether bytes begin with the mark of the new layout.
 fn is_marked(bytes: &[u8]) -> bool
     ensures { result ≡ bytes_eq (take 4 bytes.now) MARK }
 {
     bytes.starts_with(&MARK)
 }
 
-/// The rule on frames of this number: all of them have the letter F.
+/// Returns the rule on frames with this number. All of them have the letter F.
 pub fn frame_rule(number: u8) -> Rule
     ensures { result ≡ the_frame_rule number }
 {
@@ -53,8 +56,8 @@ pub fn frame_rule(number: u8) -> Rule
     }
 }
 
-/// What bytes begin, in the layout that their first bytes tell.
-fn begun(alloc: Global, schema: &Schema, bytes: &[u8]) -> Decoded
+/// Decodes the frame that the bytes begin with, in the layout that their first bytes show.
+fn begun(alloc: Global, schema: &Schema, bytes: &[u8]) -> DecodeResult
     requires { IsSound schema.now }
     ensures { IsTrueOf (layout_at bytes.now) schema.now bytes.now result }
 {
@@ -65,7 +68,7 @@ fn begun(alloc: Global, schema: &Schema, bytes: &[u8]) -> Decoded
     }
 }
 
-/// What stands at an offset of a file, where these bytes are left.
+/// Finds what is at an offset of a file, where these bytes are left.
 pub(crate) fn found_at(
     alloc: Global,
     schema: &Schema,
@@ -77,12 +80,14 @@ pub(crate) fn found_at(
     ensures { IfOk result (IsFound schema.now offset bytes.now) }
 {
     match begun(alloc, schema, bytes) {
-        Decoded::Frame(message, size) => Ok(FrameReading::Frame(message, size)),
-        Decoded::Short(missing) => Ok(FrameReading::Fault(FrameListFault::Short(offset, missing))),
-        Decoded::Bad(within, number) => {
+        DecodeResult::Frame(message, size) => Ok(FrameReading::Frame(message, size)),
+        DecodeResult::Short(missing) => Ok(FrameReading::Fault(FrameListFault::Short(
+            offset, missing,
+        ))),
+        DecodeResult::Bad(within, number) => {
             let rule = frame_rule(number);
             Ok(FrameReading::Fault(FrameListFault::Broken(offset + within, rule)))
         }
-        Decoded::NoMemory => Err(AllocError),
+        DecodeResult::NoMemory => Err(AllocError),
     }
 }

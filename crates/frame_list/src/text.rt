@@ -1,3 +1,4 @@
+//! The lines of frames and of faults.
 ghost use Rattle.std.specs.Prelude.{◌≡◌, ◌++◌, IfOk, OnOk, [], if◌then◌else◌, pos, codes};
 ghost use Rattle.std.specs.Ordering.{int_eq};
 ghost use Rattle.ipdl_base.specs.Sound.{IsSound};
@@ -19,7 +20,7 @@ fn push_receiver(out: &mut Vec<u8>, schema: &Schema, message: &Message) -> Resul
     push_message(out, schema, message.number)
 }
 
-/// Appends a word, the number and the transaction of a message, and to whom which message goes.
+/// Appends a word, the number and the transaction of a message, its receiver and its name.
 fn push_addressed(
     out: &mut Vec<u8>,
     schema: &Schema,
@@ -34,7 +35,7 @@ fn push_addressed(
     push_receiver(out, schema, message)
 }
 
-/// Appends the new actor of a constructor's request.
+/// Appends the new actor of a request, if it is a constructor's.
 fn push_made(out: &mut Vec<u8>, made: i32) -> Result<(), AllocError>
     ensures { OnOk result (out.new.items ≡ out.old.items ++ made_text made) }
 {
@@ -45,7 +46,7 @@ fn push_made(out: &mut Vec<u8>, made: i32) -> Result<(), AllocError>
     }
 }
 
-/// Appends what a message says.
+/// Appends the content of a message.
 fn push_said(out: &mut Vec<u8>, schema: &Schema, message: &Message) -> Result<(), AllocError>
     requires { IsSound schema.now }
     ensures { OnOk result (out.new.items ≡ out.old.items ++ said_text schema.now message.now message.now.body) }
@@ -87,7 +88,7 @@ pub(crate) fn push_line(
     out.extend_from_slice(b"\n")
 }
 
-/// The line that says why the file of this name holds no further frames (docs/frames.md).
+/// Returns the line that reports why the file of this name is no longer a list of frames (docs/frames.md).
 pub fn fault_text(alloc: Global, name: &[u8], fault: &FrameListFault) -> Result<Vec<u8>, AllocError>
     ensures { IfOk result (λ text. text.items ≡ fault_line name.now fault.now) }
 {

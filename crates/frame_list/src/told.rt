@@ -1,4 +1,5 @@
-//! The frames of a file, each told as soon as it is found, so that no more than one message is held.
+//! Writes the frames of a file. Each is written as soon as it is found, so only one message is in memory at a
+//! time.
 
 ghost use Rattle.std.specs.Prelude.{◌≡◌, ◌<◌, ◌≤◌, ◌+◌, ◌++◌, IfOk, OnOk, length, drop};
 ghost use Rattle.ipdl_base.specs.Sound.{IsSound};
@@ -14,19 +15,19 @@ use ipdl_base::Schema;
 use std::alloc::{AllocError, Global};
 use value_types::{boxes_say_nothing, new_is_at_most_four_times};
 
-/// How a frame is told.
+/// The form in which a frame is written.
 #[derive(Clone, Copy)]
 enum Form {
-    /// By its line.
+    /// The line of the frame.
     Line,
-    /// By the new frame of its message.
+    /// The new frame of its message.
     NewFrame,
 }
 
-/// What was told of what stands at an offset.
+/// What was written for an offset.
 #[derive(Clone, Copy)]
 enum Step {
-    /// A frame of so many bytes.
+    /// A frame, and the number of its bytes.
     Frame(usize),
     /// No frame.
     Fault(FrameListFault),
@@ -50,7 +51,7 @@ fn push_in_form(
     }
 }
 
-/// Appends what stands at an offset of a file, where these bytes are left, and says how long it is.
+/// Appends the frame at an offset of a file, where these bytes are left, and returns its size or the fault.
 fn push_step(
     out: &mut Vec<u8>,
     alloc: Global,
@@ -75,7 +76,8 @@ fn push_step(
     }
 }
 
-/// Appends the frames that the bytes of a file hold in a form, and says where they hold no further ones.
+/// Appends the frames of a file in a form, and returns where the bytes are no longer a list of frames, if
+/// anywhere.
 fn push_frames(
     out: &mut Vec<u8>,
     alloc: Global,
@@ -91,8 +93,8 @@ fn push_frames(
     while !rest.is_empty() {
         match push_step(out, alloc, schema, form, offset, rest)? {
             Step::Frame(size) => {
-                let (_, behind) = rest.split_at(size);
-                rest = behind;
+                let (_, following) = rest.split_at(size);
+                rest = following;
                 offset += size;
             }
             Step::Fault(fault) => return Ok(Some(fault)),
@@ -101,8 +103,9 @@ fn push_frames(
     Ok(None)
 }
 
-/// Appends the lines of the frames that the bytes of a file hold (docs/frames.md): for each its offset
-/// and what its message says. Says where they hold no further ones.
+/// Appends the lines of the frames in the bytes of a file (docs/frames.md): for each frame its offset and the
+/// content of its message. Returns where the bytes are no longer a list of frames, if anywhere. Fails only if
+/// memory runs out.
 pub fn push_lines(
     out: &mut Vec<u8>,
     alloc: Global,
@@ -115,9 +118,10 @@ pub fn push_lines(
     push_frames(out, alloc, schema, Form::Line, bytes)
 }
 
-/// Appends the messages of the frames that the bytes of a file hold in new frames, one behind another
-/// (docs/frames.md). Each has one, since a payload takes in the new layout at most four times what it
-/// takes in the old one. Says where the bytes hold no further ones.
+/// Appends the messages of the frames in the bytes of a file as new frames, one after another
+/// (docs/frames.md). Each message has a new frame, since a payload takes at most four times as many bytes in
+/// the new layout as in the old one. Returns where the bytes are no longer a list of frames, if anywhere.
+/// Fails only if memory runs out.
 pub fn push_new_frames(
     out: &mut Vec<u8>,
     alloc: Global,

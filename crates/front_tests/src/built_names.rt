@@ -1,3 +1,5 @@
+//! Tests of the table of names on programs that are built without texts.
+
 use super::founds::{find, show_found, wrong_lookups, wrong_protocols};
 use super::given::name;
 use ipdl_base::{Compress, Direction, Items, Level, Name, Place, Semantics};
@@ -30,7 +32,7 @@ fn protocol(alloc: Global, full: Name) -> ProtocolDecl {
     }
 }
 
-/// What a file declares.
+/// The declarations of a file.
 #[derive(Drop)]
 struct Declared {
     usings: Vec<Using>,
@@ -40,7 +42,7 @@ struct Declared {
 }
 
 impl Declared {
-    /// Nothing.
+    /// Returns no declarations.
     fn new(alloc: Global) -> Declared {
         Declared {
             usings: Vec::new(alloc),
@@ -85,7 +87,7 @@ impl Declared {
         )
     }
 
-    /// Declares what a text says: a word for what it is, and its full name.
+    /// Adds the declaration that a text gives: a word for its kind, and its full name.
     fn declare(&mut self, alloc: Global, text: &str) -> Result<(), AllocError> {
         let (word, full) = text.split_once(" ").unwrap_or(("", ""));
         let full = name(alloc, full)?;
@@ -100,7 +102,7 @@ impl Declared {
         }
     }
 
-    /// The file with these declarations that includes the files with these indices.
+    /// Returns a file with these declarations that includes the files with these indices.
     fn entry(self, alloc: Global, includes: &[u32]) -> Result<Entry, AllocError> {
         let includes = Vec::from_slice(alloc, includes)?;
         Ok(Entry {
@@ -118,7 +120,7 @@ impl Declared {
     }
 }
 
-/// Files: what each declares. The second and the third are headers.
+/// The declarations of each file. The second and the third files are headers.
 const FILE_A: &str = "using A::T<int>
 using x::int32_t
 using ByteBuf
@@ -138,7 +140,8 @@ using mozilla::ipc::ManagedEndpoint
 struct D
 union D";
 
-/// Appends the file that includes those with these indices and declares what the lines of a text say.
+/// Appends a file that includes the files with these indices and has the declarations in the lines
+/// of a text.
 fn push_entry(
     alloc: Global,
     includes: &[u32],
@@ -152,7 +155,7 @@ fn push_entry(
     Ok(all.push(declared.entry(alloc, includes)?)?)
 }
 
-/// The program of these files, and of two more.
+/// Returns the program of these files and of two more.
 fn small(alloc: Global) -> Result<Program, AllocError> {
     let mut all = Vec::new(alloc);
     push_entry(alloc, &[1, 3], FILE_A, &mut all)?;
@@ -163,7 +166,7 @@ fn small(alloc: Global) -> Result<Program, AllocError> {
     Ok(Items::from_vec(all))
 }
 
-/// Which file looks, the name, its argument where it has one, and what is found.
+/// Rows: the file that looks the name up, the name, its argument, if it has one, and what it finds.
 const LOOKUPS: &str = "0 N::S => struct 0 0
 0 S => struct 0 0 and struct 1 0
 0 M::S => struct 1 0
@@ -196,7 +199,7 @@ const LOOKUPS: &str = "0 N::S => struct 0 0
 0 Endpoint PZ => using 1 2
 0 Endpoint Nope => none";
 
-/// As these, of names behind `manager` or `manages`.
+/// Rows in the same form, of names after `manager` or `manages`.
 const PROTOCOLS: &str = "0 PB => protocol 3\n0 D => none";
 
 #[test]
@@ -212,13 +215,13 @@ fn names_find_what_is_seen(rt: HostRuntime) -> Result<(), Fail> {
 
 const HEADERS: u32 = 4096;
 
-/// A name that ends with a number.
+/// Returns a text followed by a number, as a name.
 fn numbered(alloc: Global, text: &str, number: u32) -> Result<Name, AllocError> {
     Name::from_vec(alloc, format!(in alloc; "{text}{number}")?.into_bytes())
 }
 
-/// The header of this number in a ring: with 24 usings, 24 structs, a union, and one using that all
-/// have.
+/// Returns the header of this number in a ring. It has 24 usings, 24 structs, a union, and one
+/// using that all headers have.
 fn header(alloc: Global, file: u32) -> Result<Entry, AllocError> {
     let mut declared = Declared::new(alloc);
     declared.using(alloc, name(alloc, "a::Shared")?)?;
@@ -231,7 +234,7 @@ fn header(alloc: Global, file: u32) -> Result<Entry, AllocError> {
     declared.entry(alloc, &[file.wrapping_add(1) % HEADERS])
 }
 
-/// Headers in a ring of includes.
+/// Returns headers in a ring of includes.
 fn ring(alloc: Global) -> Result<Program, AllocError> {
     let mut all = Vec::new(alloc);
     for file in 0..HEADERS {
@@ -240,7 +243,7 @@ fn ring(alloc: Global) -> Result<Program, AllocError> {
     Ok(Items::from_vec(all))
 }
 
-/// Whether a header finds this struct of another by its short name.
+/// Returns whether a header finds this struct of another header by its short name.
 fn finds_struct(
     alloc: Global,
     names: &Names<'_>,
@@ -256,7 +259,8 @@ fn finds_struct(
     Ok(matches!(found, Found::One(DeclId::Struct(f, p)) if f == file && p == place as usize))
 }
 
-/// Whether the header in the middle finds this `using` of another, behind the one that all have.
+/// Returns whether the header in the middle finds this `using` of another header. It comes after
+/// the one that all headers have.
 fn finds_using(
     alloc: Global,
     names: &Names<'_>,
@@ -268,7 +272,7 @@ fn finds_using(
     Ok(matches!(found, Found::One(DeclId::Using(f, p)) if f == file && p == place as usize + 1))
 }
 
-/// Whether these are both found, for each place in a header.
+/// Returns whether both are found, for each index in a header.
 fn finds_all(alloc: Global, names: &Names<'_>, file: u32) -> Result<bool, AllocError> {
     for place in 0..24u32 {
         if !finds_struct(alloc, names, file, place)? || !finds_using(alloc, names, file, place)? {
@@ -278,7 +282,8 @@ fn finds_all(alloc: Global, names: &Names<'_>, file: u32) -> Result<bool, AllocE
     Ok(true)
 }
 
-/// How many headers are found whole, and what is found of the name that all have.
+/// Returns the number of headers of which everything is found, and what the name that all headers
+/// have finds.
 fn found_in_ring(alloc: Global, names: &Names<'_>) -> Result<String, AllocError> {
     let mut found = show_found(alloc, find(alloc, names, 77, "Shared", "")?)?;
     let mut count = 0u32;
@@ -301,7 +306,7 @@ fn a_ring_of_headers(rt: HostRuntime) -> Result<(), Fail> {
     Ok(())
 }
 
-/// Attributes, with their values where they have one (else no text).
+/// Attributes with their values. An empty text means no value.
 const ATTRIBUTES: &[(&str, &str)] = &[
     ("Nested", "inside_sync"),
     ("Nested", "inside_cpow"),
@@ -322,7 +327,7 @@ fn attribute(alloc: Global, of: &str, value: &str) -> Result<Attribute, AllocErr
     })
 }
 
-/// A sync message with all these attributes.
+/// Returns a sync message with all these attributes.
 fn message(alloc: Global, text: &str) -> Result<MessageDecl, AllocError> {
     let mut attributes = Vec::new(alloc);
     for (of, value) in ATTRIBUTES {
@@ -339,7 +344,7 @@ fn message(alloc: Global, text: &str) -> Result<MessageDecl, AllocError> {
     })
 }
 
-/// The protocol `PA`, which manages `PB`.
+/// Returns the protocol `PA`, which manages `PB`.
 fn owner(alloc: Global) -> Result<ProtocolDecl, AllocError> {
     let mut manages = Vec::new(alloc);
     manages.push(NameAt {
@@ -351,7 +356,7 @@ fn owner(alloc: Global) -> Result<ProtocolDecl, AllocError> {
     Ok(owner)
 }
 
-/// Appends what a message of this name is in a protocol.
+/// Appends the kind of a message of this name in a protocol.
 fn push_kind(
     alloc: Global,
     owner: &ProtocolDecl,
@@ -365,8 +370,9 @@ fn push_kind(
     })
 }
 
-/// Whether the levels, the replacing and the laziness of a message and its protocol are those of their
-/// attributes, and the message does not convert to its protocol, which converts to itself.
+/// Returns whether the levels, the compression and the laziness of a message and its protocol are
+/// those of their attributes, and whether the message does not convert to its protocol, which
+/// converts to itself.
 fn is_levelled(owner: &ProtocolDecl, makes: &MessageDecl) -> bool {
     let (of_message, of_protocol) = (Strength::of_message(makes), Strength::of_protocol(owner));
     matches!(message_level(makes), Level::InsideSync)
@@ -377,7 +383,7 @@ fn is_levelled(owner: &ProtocolDecl, makes: &MessageDecl) -> bool {
         && of_protocol.converts_to(of_protocol)
 }
 
-/// What some messages are in a protocol, and whether their levels are right.
+/// Returns the kinds of some messages in a protocol, and whether their levels are right.
 fn kinds(alloc: Global) -> Result<String, AllocError> {
     let owner = owner(alloc)?;
     let mut shown = String::new(alloc);

@@ -1,9 +1,11 @@
+//! Looks names up for tests, and shows what they find as text.
+
 use super::given::{name, note};
 use name_table::{DeclId, Found, Names};
 use std::alloc::{AllocError, Global};
 use std::test::Fail;
 
-/// What a name finds where a file looks; without its argument where this is no text.
+/// Returns what a name finds in a file. An empty argument means no argument.
 pub fn find(
     alloc: Global,
     names: &Names<'_>,
@@ -19,7 +21,7 @@ pub fn find(
     Ok(names.find(file, &text, Some(&argument)))
 }
 
-/// Appends a declaration in words.
+/// Appends a declaration as text.
 fn push_declaration(declaration: DeclId, out: &mut String) -> Result<(), AllocError> {
     match declaration {
         DeclId::Builtin(builtin) => {
@@ -33,7 +35,7 @@ fn push_declaration(declaration: DeclId, out: &mut String) -> Result<(), AllocEr
     }
 }
 
-/// What is found, in words.
+/// Returns what is found as text.
 pub fn show_found(alloc: Global, found: Found) -> Result<String, AllocError> {
     let mut shown = String::new(alloc);
     match found {
@@ -48,9 +50,9 @@ pub fn show_found(alloc: Global, found: Found) -> Result<String, AllocError> {
     Ok(shown)
 }
 
-/// Notes a name that finds something else. The row has the file that looks, the name, and its argument
-/// where it has one; and behind `=>` what is found: of two, these, or `many` where they only have to
-/// differ.
+/// Records the row of a name that finds anything but what the row expects. A row has the file that
+/// looks the name up, the name, its argument, if it has one, and after `=>` the expected result:
+/// one declaration, two, or `many` for any two that differ.
 fn check(alloc: Global, names: &Names<'_>, row: &str, wrong: &mut String) -> Result<(), Fail> {
     let (asked, wanted) = row.split_once(" => ").ok_or("a row without its answer")?;
     let (file, rest) = asked.split_once(" ").ok_or("a row without its name")?;
@@ -62,7 +64,7 @@ fn check(alloc: Global, names: &Names<'_>, row: &str, wrong: &mut String) -> Res
     Ok(note(row, as_wanted(found.as_str(), wanted), wanted, wrong)?)
 }
 
-/// What is found; only that it is many, where no more is wanted.
+/// Returns what is found, or `many` if the row expects just that of several.
 fn as_wanted<'t>(found: &'t str, wanted: &'t str) -> &'t str {
     match found.split_once(" and ") {
         Some((one, other)) if wanted == "many" && one != other => wanted,
@@ -70,7 +72,8 @@ fn as_wanted<'t>(found: &'t str, wanted: &'t str) -> &'t str {
     }
 }
 
-/// Which names of a table find something else. A row that begins with `#` is a remark.
+/// Returns the rows of a table whose names find anything but what they expect. A row that begins
+/// with `#` is a comment.
 pub fn wrong_lookups(alloc: Global, names: &Names<'_>, table: &str) -> Result<String, Fail> {
     let mut wrong = String::new(alloc);
     for row in table.split('\n') {
@@ -81,7 +84,7 @@ pub fn wrong_lookups(alloc: Global, names: &Names<'_>, table: &str) -> Result<St
     Ok(wrong)
 }
 
-/// As `check`, of a name behind `manager` or `manages`.
+/// Does the same as `check` for a name after `manager` or `manages`.
 fn check_protocol(
     alloc: Global,
     names: &Names<'_>,
@@ -94,7 +97,8 @@ fn check_protocol(
     Ok(note(row, show_found(alloc, found)?.as_str(), wanted, wrong)?)
 }
 
-/// Which names of a table behind `manager` or `manages` find something else.
+/// Returns the rows of a table of names after `manager` or `manages` that find anything but what
+/// they expect.
 pub fn wrong_protocols(alloc: Global, names: &Names<'_>, table: &str) -> Result<String, Fail> {
     let mut wrong = String::new(alloc);
     for row in table.split('\n') {

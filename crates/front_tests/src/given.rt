@@ -1,14 +1,17 @@
+//! What the tests of the front end are given: words, files in memory, names and programs.
+
 ghost use Rattle.std.specs.Prelude.{IfOk};
 ghost use Rattle.ipdl_syntax.specs.Programs.{IsProgram, BearTheirNames};
 
 use file_log::RecordedFiles;
 use include_graph::{LoadResult, are_file_words, load};
-use ipdl_base::{Failure, FileBytes, Files, Finding, Findings, MemoryFiles, Name};
+use ipdl_base::{Failure, FileBytes, Files, Finding, Findings, Name};
 use ipdl_syntax::Program;
+use memory_files::MemoryFiles;
 use std::alloc::{AllocError, Global};
 use std::test::Fail;
 
-/// Strings of the words of a text, which have a blank between each two.
+/// Returns the words of a text, which spaces separate, as strings.
 pub fn strings(alloc: Global, words: &str) -> Result<Vec<String>, AllocError> {
     let mut strings = Vec::new(alloc);
     for word in words.split(' ') {
@@ -17,14 +20,14 @@ pub fn strings(alloc: Global, words: &str) -> Result<Vec<String>, AllocError> {
     Ok(strings)
 }
 
-/// A file with this name and text.
+/// Returns a file with this name and text.
 fn file(alloc: Global, name: &str, text: &str) -> Result<(String, Vec<u8>), AllocError> {
     let name = String::from_str(alloc, name)?;
     Ok((name, Vec::from_slice(alloc, text.as_bytes())?))
 }
 
-/// The files that a text spells, in memory: each has its name behind `@ `, and then its text. The read
-/// with this number, from 1, fails.
+/// Returns files in memory from a text: each has its name after `@ `, and then its content. The
+/// read with this number, counted from 1, fails.
 pub fn files(alloc: Global, texts: &str, failing: u64) -> Result<MemoryFiles, AllocError> {
     let mut files = Vec::new(alloc);
     for piece in texts.split("@ ") {
@@ -35,17 +38,17 @@ pub fn files(alloc: Global, texts: &str, failing: u64) -> Result<MemoryFiles, Al
     Ok(MemoryFiles::new(files, vec![in alloc; failing]?))
 }
 
-/// A name of text.
+/// Returns a text as a name.
 pub fn name(alloc: Global, text: &str) -> Result<Name, AllocError> {
     Name::from_slice(alloc, text.as_bytes())
 }
 
-/// The text of a name.
+/// Returns the text of a name.
 pub fn text(name: &Name) -> &str {
     str::from_utf8(name.as_slice()).unwrap_or("no text")
 }
 
-/// The program of these files, which breaks no rule of files.
+/// Returns the program of these files, which breaks no rule on files.
 pub fn program(alloc: Global, files: MemoryFiles, words: &str) -> Result<Program, Fail>
     ensures program { IfOk result IsProgram }
     ensures names { IfOk result BearTheirNames }
@@ -69,7 +72,7 @@ pub fn push_finding(finding: &Finding, out: &mut String) -> Result<(), AllocErro
     write!(out, "{}:{} {letter}{number}", place.line, place.column)
 }
 
-/// Findings, each as `FILE:LINE:COLUMN RULE` and a blank.
+/// Returns findings as text, each as `FILE:LINE:COLUMN RULE` and a space.
 pub fn show(alloc: Global, findings: &Findings) -> Result<String, AllocError> {
     let mut shown = String::new(alloc);
     for finding in findings.as_slice() {
@@ -80,7 +83,7 @@ pub fn show(alloc: Global, findings: &Findings) -> Result<String, AllocError> {
     Ok(shown)
 }
 
-/// Notes what came out of a row, where it is not what the row wants.
+/// Records the result of a row if it is not the expected one.
 pub fn note(row: &str, found: &str, wanted: &str, wrong: &mut String) -> Result<(), AllocError> {
     if found == wanted {
         Ok(())
@@ -89,7 +92,7 @@ pub fn note(row: &str, found: &str, wanted: &str, wrong: &mut String) -> Result<
     }
 }
 
-/// Files in memory that keep the names that they were asked for, each with a blank behind it.
+/// Files in memory that record the names that are read, each with a space after it.
 #[derive(Drop)]
 pub struct NotedFiles {
     files: MemoryFiles,
@@ -97,7 +100,7 @@ pub struct NotedFiles {
 }
 
 impl NotedFiles {
-    /// Files that were asked for nothing yet.
+    /// Returns files of which nothing was read yet.
     pub fn new(alloc: Global, files: MemoryFiles) -> NotedFiles {
         NotedFiles {
             files,
@@ -106,7 +109,7 @@ impl NotedFiles {
     }
 }
 
-/// Appends a name and a blank.
+/// Appends a name and a space.
 fn push_asked(asked: &mut String, name: &str) -> Result<(), AllocError> {
     asked.push_str(name)?;
     asked.push(' ')
@@ -114,9 +117,9 @@ fn push_asked(asked: &mut String, name: &str) -> Result<(), AllocError> {
 
 impl Files for NotedFiles {
     ghost use Rattle.std.specs.Prelude.{Some};
-    ghost use Rattle.ipdl_base.specs.Memory as memory;
+    ghost use Rattle.memory_files.specs.Memory as memory;
 
-    ghost told = { λ f. Some (memory.file_named f.files.files) };
+    ghost known = { λ f. Some (memory.file_named f.files.files) };
 
     ghost faults = { λ f. f.files.faults };
 

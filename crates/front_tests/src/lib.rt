@@ -1,5 +1,5 @@
-//! Tests of the front end over texts: what a list of files loads as, what names find in it, which
-//! rules it breaks, what its tables are, and what a sync list says of it.
+//! Tests of the front end on texts: loading a list of files, finding names, the rules, the tables,
+//! and the sync list.
 #![tactic(auto)]
 
 #[cfg(test)]

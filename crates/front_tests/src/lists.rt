@@ -1,3 +1,5 @@
+//! Tests of the rules on sync lists.
+
 use super::given::{files, note, program, show};
 use findings::sort_findings;
 use ipdl_syntax::Program;
@@ -5,8 +7,8 @@ use std::alloc::Global;
 use std::test::Fail;
 use sync_list::{ListFault, add_of_list, read_list};
 
-/// The files of the programs, each with its name behind `@ `, and then its text. A message of `PT` is
-/// sync and async; two protocols of `two` have messages of one name.
+/// The files of the programs, each with its name after `@ `, and then its text. A message of `PT`
+/// is sync and async; two protocols of `two` have messages of one name.
 const FILES: &str = "@ PL.ipdl
 sync protocol PL {
 parent:
@@ -59,8 +61,8 @@ parent:
 };
 ";
 
-/// Lists. The first line of each has the files of the program, and the findings; the list is what
-/// stands behind it. `====` stands between two, and behind `#` what is said of the next ones.
+/// Rows of lists. The first line of each has the files of the program and the findings, and the
+/// list follows. `====` separates rows, and a comment on the next rows follows `#`.
 const LISTS: &str = "# The worked case.
 ====
 PL.ipdl: 0:3:8 S1 1:1:1 S4 1:3:1 S2 1:5:1 S3 
@@ -321,11 +323,12 @@ description: y
   z
 ";
 
-/// Lists with a program of no file, in the same form: the list is file 0, and no protocol is read.
+/// Rows of lists with a program of no file, in the same form. The list is file 0, and there is no
+/// protocol.
 const ALONE: &str = ": 0:1:1 S4 \n[P::M]\n====\n: \n[P::M]\ndescription=x";
 
-/// Texts that are no list, each behind the number of the first line that is not of the format (A2 at
-/// column 1 of it).
+/// Texts that are not lists, each after the number of its first line that is not of the format (A2
+/// at column 1 of the line).
 const BAD_LISTS: &str = "1
 x
 
@@ -389,7 +392,7 @@ description = a
 description
 ";
 
-/// The findings of a program and a list, each as `FILE:LINE:COLUMN RULE` and a blank.
+/// Returns the findings of a program and a list, each as `FILE:LINE:COLUMN RULE` and a space.
 fn show_findings(alloc: Global, program: &Program, text: &str) -> Result<String, Fail> {
     if text.len() > 1_048_576 || program.len() > 4096 {
         return Err("a list or a program that is too large".into());
@@ -400,7 +403,7 @@ fn show_findings(alloc: Global, program: &Program, text: &str) -> Result<String,
     Ok(show(alloc, &sort_findings(found))?)
 }
 
-/// The program of these files, of which each is a word.
+/// Returns the program of these files. Each file is a word.
 fn program_of(alloc: Global, words: &str) -> Result<Program, Fail> {
     if words.is_empty() {
         Ok(Program::from_vec(Vec::new(alloc)))
@@ -409,7 +412,7 @@ fn program_of(alloc: Global, words: &str) -> Result<Program, Fail> {
     }
 }
 
-/// Notes a list that has other findings.
+/// Records the row of a list if it has other findings than expected.
 fn check(alloc: Global, row: &str, wrong: &mut String) -> Result<(), Fail> {
     let (head, list) = row.split_once("\n").ok_or("a row without its list")?;
     let (words, wanted) = head.split_once(": ").ok_or("a row without its findings")?;
@@ -418,7 +421,8 @@ fn check(alloc: Global, row: &str, wrong: &mut String) -> Result<(), Fail> {
     Ok(note(row, found.as_str(), wanted, wrong)?)
 }
 
-/// Which lists of a table have other findings. A row that begins with `#` is a remark.
+/// Returns the rows of a table whose lists have other findings than expected. A row that begins
+/// with `#` is a comment.
 fn wrong_lists(alloc: Global, table: &str) -> Result<String, Fail> {
     let mut wrong = String::new(alloc);
     for row in table.split("\n====\n") {
@@ -429,7 +433,7 @@ fn wrong_lists(alloc: Global, table: &str) -> Result<String, Fail> {
     Ok(wrong)
 }
 
-/// The first line of a text that is not of the format; 0 where there is none.
+/// Returns the number of the first line of a text that is not of the format, or 0.
 fn bad_line(alloc: Global, text: &str) -> u32 {
     if text.len() > 1_048_576 {
         return 0;
@@ -440,7 +444,8 @@ fn bad_line(alloc: Global, text: &str) -> u32 {
     }
 }
 
-/// Which texts of a table are of the format up to other lines.
+/// Returns the rows of a table whose texts have another first line that is not of the format than
+/// expected.
 fn wrong_lines(alloc: Global, table: &str) -> Result<String, Fail> {
     let mut wrong = String::new(alloc);
     for row in table.split("\n====\n") {

@@ -1,6 +1,8 @@
-/// Loads. Each row: what it is about; the words; the path; the number of the read that fails, or 0; the
-/// names that are read, in their order; what is loaded or found; and then each file behind `@ `.
-/// `====` stands between two rows.
+//! The rows of the tests of loading.
+
+/// Rows of loads. Each row has its subject, the words, the path, the number of the read that fails
+/// (or 0), the names that are read in their order, the result, and then each file after `@ `.
+/// `====` separates rows.
 pub const LOADS: &str = "The first name of the path that exists counts, and each key is read once.
 one/PX.ipdl
 one two

@@ -1,10 +1,13 @@
+//! Tests of loading the files that words reach.
+
 use super::given::{NotedFiles, files, note, push_finding, strings, text};
 use super::load_rows::LOADS;
 use file_log::RecordedFiles;
 use findings::sort_findings;
 use include_graph::{BrokenFiles, LoadResult, are_file_words, load, one_reach};
-use ipdl_base::{Failure, Finding, MemoryFiles, Texts as Names, key_of};
+use ipdl_base::{Failure, Finding, Texts as Names, key_of};
 use ipdl_syntax::{Entry, Program};
+use memory_files::MemoryFiles;
 use std::alloc::{AllocError, Global};
 use std::test::Fail;
 
@@ -33,7 +36,7 @@ fn push_named(finding: &Finding, names: &Names, out: &mut String) -> Result<(), 
     out.push('\n')
 }
 
-/// Appends what files break, in order, each on a line.
+/// Appends the findings of broken files in order, each on a line.
 fn push_broken(files: BrokenFiles, out: &mut String) -> Result<(), AllocError> {
     let BrokenFiles { findings, names } = files;
     let sorted = sort_findings(findings.into_vec());
@@ -43,7 +46,7 @@ fn push_broken(files: BrokenFiles, out: &mut String) -> Result<(), AllocError> {
     Ok(())
 }
 
-/// Appends what a load gives.
+/// Appends the result of a load.
 fn push_answer(answer: Result<LoadResult, Failure>, out: &mut String) -> Result<(), AllocError> {
     match answer {
         Ok(LoadResult::Whole(program)) => push_program(&program, out),
@@ -53,7 +56,7 @@ fn push_answer(answer: Result<LoadResult, Failure>, out: &mut String) -> Result<
     }
 }
 
-/// What these files load as by these words, and the names that are read.
+/// Returns the result of loading these files with these words, and the names that are read.
 fn load_all(
     alloc: Global,
     files: MemoryFiles,
@@ -72,7 +75,7 @@ fn load_all(
     Ok((shown, files.files().asked.clone()?))
 }
 
-/// Notes a load of something else, or where other names are read.
+/// Records the row of a load if its result or the names that are read are not the expected ones.
 fn check(alloc: Global, row: &str, wrong: &mut String) -> Result<(), Fail> {
     let (head, pieces) = row.split_once("@ ").unwrap_or((row, ""));
     let (_, head) = head.split_once("\n").ok_or("a row without words")?;
@@ -88,7 +91,7 @@ fn check(alloc: Global, row: &str, wrong: &mut String) -> Result<(), Fail> {
     Ok(note(words, asked.as_str(), names, wrong)?)
 }
 
-/// Which of these loads are others.
+/// Returns the rows of loads that differ from what they expect.
 fn wrong_loads(alloc: Global) -> Result<String, Fail> {
     let mut wrong = String::new(alloc);
     for row in LOADS.split("====\n") {
@@ -105,7 +108,7 @@ fn loads(rt: HostRuntime) -> Result<(), Fail> {
     Ok(())
 }
 
-/// A header of this many blanks, and a protocol that includes it.
+/// Returns a header of this number of blanks, and a protocol that includes it.
 fn blanks(alloc: Global, count: usize) -> Result<MemoryFiles, Fail> {
     let mut files = Vec::new(alloc);
     let text = "include H;\nprotocol PA { };\n";
@@ -120,7 +123,8 @@ fn blanks(alloc: Global, count: usize) -> Result<MemoryFiles, Fail> {
     Ok(MemoryFiles::new(files, Vec::new(alloc)))
 }
 
-/// A protocol that includes so many headers, and one that includes the last of them and the first.
+/// Returns a protocol that includes this number of headers, and one that includes the last of them
+/// and the first.
 fn many_includes(alloc: Global, count: u32) -> Result<MemoryFiles, Fail> {
     let mut first = String::new(alloc);
     for n in 0..count {
@@ -135,14 +139,14 @@ fn many_includes(alloc: Global, count: u32) -> Result<MemoryFiles, Fail> {
     Ok(MemoryFiles::new(files, Vec::new(alloc)))
 }
 
-/// What a program with a header of so many blanks loads as.
+/// Returns the result of loading a program with a header of this number of blanks.
 fn loaded_blanks(alloc: Global, count: usize) -> Result<String, Fail> {
     let (shown, _) = load_all(alloc, blanks(alloc, count)?, "PA.ipdl", ".")?;
     Ok(shown)
 }
 
-/// With two words and includes of so many headers: the number of findings and of names that are read,
-/// the last of these, and the last findings behind a line.
+/// Returns, for two words and includes of this number of headers: the number of findings and of
+/// names that are read, the last of these names, and the last findings after a line.
 fn loaded_includes(alloc: Global, count: u32, line: &str) -> Result<String, Fail> {
     let files = many_includes(alloc, count)?;
     let (shown, asked) = load_all(alloc, files, "PA.ipdl PB.ipdl", ".")?;
@@ -163,7 +167,7 @@ fn limits(rt: HostRuntime) -> Result<(), Fail> {
         loaded_blanks(alloc, 1_048_577)?.as_str(),
         "H.ipdlh:0:0 A5\n"
     );
-    // With two words, 4,094 headers are reached, and one more is left out wherever it is included.
+    // With two words, 4,094 headers are reached. One more is left out wherever it is included.
     let shown = loaded_includes(alloc, 4094, "PA.ipdl:4093:9 A3\n")?;
     assert_eq!(rt; shown.as_str(), MOST_INCLUDES);
     let shown = loaded_includes(alloc, 4095, "PA.ipdl:4093:9 A3\n")?;
@@ -171,14 +175,14 @@ fn limits(rt: HostRuntime) -> Result<(), Fail> {
     Ok(())
 }
 
-/// What is shown of includes of as many headers as are reached.
+/// The expected text for includes of the largest number of headers that are reached.
 const MOST_INCLUDES: &str = "4096 4096 H4093.ipdlh
 PA.ipdl:4094:9 A3
 PB.ipdl:1:9 A3
 PB.ipdl:2:9 A3
 ";
 
-/// What is shown of includes of one header more.
+/// The expected text for includes of one header more.
 const MORE_INCLUDES: &str = "4097 4096 H4093.ipdlh
 PA.ipdl:4094:9 A3
 PA.ipdl:4095:9 A5

@@ -1,4 +1,6 @@
-/// Programs, with what breaks the rules on managers, in the same form.
+//! The rows of the tests of the rules on managers.
+
+/// Programs with their findings of the rules on managers, in the form of the rows on types.
 pub const MANAGERS: &str = "A manager and what it manages: nothing is broken
 
 @ PA.ipdl
@@ -731,5 +733,5 @@ parent:
 };
 ";
 
-/// How many programs these are.
+/// The number of these programs.
 pub const MANAGERS_COUNT: &str = "43";

@@ -1,4 +1,6 @@
-/// Programs, with what breaks the rules on messages, in the same form.
+//! The rows of the tests of the rules on messages.
+
+/// Programs with their findings of the rules on messages, in the form of the rows on types.
 pub const MESSAGES: &str = "B11 and B14 on one message
 0:3:8 B11 0:3:8 B14 
 @ PT.ipdl
@@ -242,5 +244,5 @@ child:
 };
 ";
 
-/// How many programs these are.
+/// The number of these programs.
 pub const MESSAGES_COUNT: &str = "22";

@@ -1,3 +1,5 @@
+//! Tests of what names find in a program of several files.
+
 use super::founds::{wrong_lookups, wrong_protocols};
 use super::given::{files, program};
 use name_table::Names;
@@ -49,7 +51,7 @@ struct Four { };
 namespace t { protocol PThird { }; }
 ";
 
-/// Which file looks, the name, its argument where it has one, and what is found.
+/// Rows: the file that looks the name up, the name, its argument, if it has one, and what it finds.
 const LOOKUPS: &str = "# A file's own declarations, by full and by short names.
 0 Own => struct 0 0
 0 a::b::Deep => struct 0 1
@@ -133,7 +135,8 @@ const LOOKUPS: &str = "# A file's own declarations, by full and by short names.
 1 ManagedEndpoint POther => endpoint 1 true
 3 ManagedEndpoint => none";
 
-/// Which file looks, the name behind `manager` or `manages`, and the protocol that is found.
+/// Rows: the file that looks the name up, the name after `manager` or `manages`, and the protocol
+/// that it finds.
 const PROTOCOLS: &str = "0 POther => protocol 1
 0 PMain => protocol 0
 0 a::b::PMain => protocol 0

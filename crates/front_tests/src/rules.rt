@@ -1,3 +1,5 @@
+//! Tests of the rules on types, messages and managers.
+
 ghost use Rattle.ipdl_syntax.specs.Programs.{IsProgram};
 
 use super::given::{files, note, program, show};
@@ -8,12 +10,12 @@ use findings::sort_findings;
 use ipdl_base::Findings;
 use ipdl_syntax::Program;
 use name_table::Names;
-use proto_rules::add_of_protocols;
+use program_schema::add_of_protocols;
 use std::alloc::Global;
 use std::test::Fail;
 use type_rules::add_of_types;
 
-/// Some rules on programs.
+/// A group of rules on programs.
 #[derive(Clone, Copy)]
 pub enum Rules {
     Types,
@@ -21,7 +23,7 @@ pub enum Rules {
 }
 
 impl Rules {
-    /// What the rules find in a program.
+    /// Returns the findings of the rules in a program.
     pub fn findings(self, alloc: Global, program: &Program) -> Result<Findings, Fail>
         requires { IsProgram program.now }
     {
@@ -38,7 +40,7 @@ impl Rules {
     }
 }
 
-/// What the rules find in the program of pieces, which the first of them reaches.
+/// Returns the findings of the rules in the program that the first of these files reaches.
 fn found(alloc: Global, rules: Rules, pieces: &str) -> Result<String, Fail> {
     let (word, _) = pieces.split_once("\n").ok_or("a file without its name")?;
     let program = program(alloc, files(alloc, pieces, 0)?, word)?;
@@ -46,8 +48,8 @@ fn found(alloc: Global, rules: Rules, pieces: &str) -> Result<String, Fail> {
     Ok(show(alloc, &findings)?)
 }
 
-/// Notes a row of which the rules find something else. It is two lines, what it is about and the
-/// findings, and then each file behind `@ `.
+/// Records a row if the rules have other findings than expected. A row is two lines, its subject
+/// and the findings, and then each file after `@ `.
 fn check(alloc: Global, rules: Rules, row: &str, wrong: &mut String) -> Result<(), Fail> {
     let (head, pieces) = row.split_once("@ ").ok_or("a row without a file")?;
     let (about, wanted) = head.split_once("\n").ok_or("a row without its lines")?;
@@ -55,8 +57,7 @@ fn check(alloc: Global, rules: Rules, row: &str, wrong: &mut String) -> Result<(
     Ok(note(about, found.as_str(), wanted.trim_end_matches("\n"), wrong)?)
 }
 
-/// What the rules find in the programs of a table that these are not marked with, and how many they
-/// are.
+/// Returns the wrong rows of a table, and the number of its programs.
 fn checked(alloc: Global, rules: Rules, table: &str) -> Result<String, Fail> {
     let mut shown = String::new(alloc);
     let mut count = 0u32;

@@ -1,3 +1,5 @@
+//! Tests of the schema of a program and of its tables.
+
 ghost use Rattle.ipdl_base.specs.Sound.{IsSound};
 
 use super::given::{files, note};
@@ -7,9 +9,9 @@ use schema_of_text::schema_of;
 use std::alloc::{AllocError, Global};
 use std::test::Fail;
 
-/// Programs that break no rule. Each row: what it is about; which of its messages are carried, in the
-/// table's order; its table; and then each file behind `@ `, of which the first is the word of the
-/// command. `====` stands between two rows.
+/// Programs that break no rule. Each row has its subject, which of its messages are carried, in the
+/// table's order, its table, and then each file after `@ `. The first file is the word of the
+/// command. `====` separates rows.
 const TABLES: &str = "A manager, what it manages, and types of a header.
 true true true true true 
 protocol 0 mozilla::PMyManaged async not
@@ -148,7 +150,7 @@ struct T { UniquePtr<nullable PA>[] p; bool b; };
 include protocol PA;
 ";
 
-/// Which messages of a schema are carried, each with a blank behind it.
+/// Returns for each message of a schema whether it is carried, with a space after it.
 fn carried(alloc: Global, schema: &Schema) -> Result<String, AllocError> {
     let mut shown = String::new(alloc);
     for protocol in schema.protocols.as_slice() {
@@ -160,7 +162,7 @@ fn carried(alloc: Global, schema: &Schema) -> Result<String, AllocError> {
     Ok(shown)
 }
 
-/// Notes a program whose table is another, or whose messages are carried otherwise.
+/// Records the row of a program if its table, or which of its messages are carried, is not as expected.
 fn check(alloc: Global, row: &str, wrong: &mut String) -> Result<(), Fail> {
     let (head, pieces) = row.split_once("@ ").ok_or("a row without a file")?;
     let (about, head) = head.split_once("\n").ok_or("a row without its messages")?;
@@ -172,7 +174,7 @@ fn check(alloc: Global, row: &str, wrong: &mut String) -> Result<(), Fail> {
     Ok(note(about, str::from_utf8(text.as_slice())?, table, wrong)?)
 }
 
-/// Which of these programs have other tables.
+/// Returns the rows of the programs with other tables than expected.
 fn wrong_tables(alloc: Global) -> Result<String, Fail> {
     let mut wrong = String::new(alloc);
     for row in TABLES.split("====\n") {
@@ -187,7 +189,7 @@ fn tables(rt: HostRuntime) -> Result<(), Fail> {
     Ok(())
 }
 
-/// A program whose messages have no reply and one.
+/// A program with a message that has no reply and one that has a reply.
 const REPLIES: &str = "@ P.ipdl
 sync protocol P {
 parent:
@@ -196,7 +198,8 @@ parent:
 };
 ";
 
-/// The numbers of the messages that these numbers are of, and whether there is a protocol of these.
+/// Returns the numbers of the messages that these numbers belong to, and whether there are
+/// protocols with these numbers.
 fn numbered(alloc: Global, schema: &Schema) -> Result<String, AllocError>
     requires { IsSound schema.now }
 {
@@ -213,7 +216,7 @@ fn numbered(alloc: Global, schema: &Schema) -> Result<String, AllocError>
     Ok(shown)
 }
 
-/// The messages of a schema by their numbers, of which one has no reply and one has one.
+/// Finds the messages of a schema by their numbers. One has no reply and one has a reply.
 #[test]
 fn messages_by_number(rt: HostRuntime) -> Result<(), Fail> {
     let alloc = rt.alloc();

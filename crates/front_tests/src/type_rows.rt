@@ -1,5 +1,8 @@
-/// Programs, with what breaks the rules on types, declarations and attributes: what each is about, the
-/// findings as `FILE:LINE:COLUMN RULE`, and the files, of which the first is the command's word.
+//! The rows of the tests of the rules on types.
+
+/// Programs with their findings of the rules on types, declarations and attributes. Each row has
+/// its subject, the findings as `FILE:LINE:COLUMN RULE`, and the files. The first file is the
+/// command's word.
 pub const TYPES: &str = "B1: a type's name finds nothing
 0:3:11 B1 
 @ PA.ipdl
@@ -397,5 +400,5 @@ parent:
 struct S { y a; int32_t a; };
 ";
 
-/// How many programs these are.
+/// The number of these programs.
 pub const TYPES_COUNT: &str = "42";

@@ -8,7 +8,7 @@ flat_map_more f a (suc n) =
     ap (λ (rest : List ℕ). f a ++ rest) (flat_map_more f (a + 1) n ∙ ap (λ (k : ℕ). flat_map f (range_with_len (a + 1) n) ++ f k) (let same : a + 1 + n ≡ a + suc n = omega arith in same))
     ∙ sym (append_assoc (f a) (flat_map f (range_with_len (a + 1) n)) (f (a + suc n)))
 
--- behind the text for the numbers so far, the text for one more
+-- after the text for the numbers so far, the text for one more
 pub one_more : (f : ℕ → List ℕ) (before now next : List ℕ) (n : ℕ) → now ≡ before ++ flat_map f (range_with_len 1 n) → next ≡ now ++ f (n + 1) → next ≡ before ++ flat_map f (range_with_len 1 (n + 1))
 one_more f before now next n so_far more =
     more ∙ ap (λ (t : List ℕ). t ++ f (n + 1)) so_far ∙ append_assoc before (flat_map f (range_with_len 1 n)) (f (n + 1))

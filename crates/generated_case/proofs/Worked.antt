@@ -16,7 +16,7 @@ one_round : script_text 1 1 ≡ codes "child main\nnew a1 top PGen.PLeaf()\nsend
 unfolding digits
 one_round = refl
 
--- the actors come in their turn: of two, the first has the first and the third round
+-- the actors take turns: of two, the first has the first and the third round
 three_rounds :
     script_text 3 2
     ≡ codes "child main\nnew a1 top PGen.PLeaf()\nnew a2 top PGen.PLeaf()\nsend a1 PLeaf.Ask(110)\nsend a1 PLeaf.Get(110)\nsend a2 PLeaf.Ask(127)\nsend a2 PLeaf.Get(127)\nsend a1 PLeaf.Ask(144)\nsend a1 PLeaf.Get(144)\nsend a1 PLeaf.__delete__()\nsend a2 PLeaf.__delete__()\nclose\nend\n"
@@ -28,7 +28,7 @@ three_rounds = refl
 abbrev of : Side → What → Line
 of end says = record { side = end; what = says }
 
--- a reply that is taken is a step, and no request that is handled; an effect is no step
+-- a reply that is taken is a step, but not a request that is handled; an effect is not a step
 abbrev few_lines : List Line
 few_lines = of side.Child (what.DeliverReply (pos 5)) ∷ of side.Child (what.TakeReply (pos 5)) ∷ of side.Child (what.Built (pos 5) 1) ∷ of side.Parent what.Close ∷ of side.Parent (what.Fall (pos 5) destroy.Deletion) ∷ []
 

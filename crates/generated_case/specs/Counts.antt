@@ -1,4 +1,4 @@
--- What the lines of a history count as.
+-- How the lines of a history are counted.
 use Rattle.std.specs.Prelude.{ℕ, ◌+◌, ◌<◌, ◌&&◌, not, Bool, true, false, if◌then◌else◌, List}
 use Rattle.std.specs.List.{count_by}
 use Rattle.ipdl_base.specs.Lines.{is_effect, same_side}
@@ -13,7 +13,7 @@ use Rattle.generated_case.specs.declared.counts.Counts.{Counts}
 abbrev pub is_step_of : Side → Line → Bool
 is_step_of side line = same_side line.side side && not (is_effect line.what)
 
--- whether a line takes a request, drops one, replaces one, settles a promise, builds an actor, or lets one fall
+-- whether a line takes a request, drops one, replaces one, settles a promise, builds an actor, or destroys one
 abbrev pub is_taken : What → Bool
 is_taken (what.Take n route message values) = true
 is_taken _ = false
@@ -39,7 +39,7 @@ abbrev pub is_fallen : What → Bool
 is_fallen (what.Fall id destroy) = true
 is_fallen _ = false
 
--- how many lines are each
+-- how many lines are of each kind
 abbrev pub counts_of : List Line → Counts
 counts_of lines = record {
   parent_steps = count_by (is_step_of side.Parent) lines;
@@ -52,11 +52,11 @@ counts_of lines = record {
   fallen = count_by (λ line. is_fallen line.what) lines;
 }
 
--- one where the test holds
+-- 1 if the test holds, and 0 if not
 abbrev pub one_if : Bool → ℕ
 one_if holds = if holds then 1 else 0
 
--- the counts with one line more
+-- the counts with one more line
 abbrev pub counts_with : Counts → Line → Counts
 counts_with counts line = record {
   parent_steps = counts.parent_steps + one_if (is_step_of side.Parent line);

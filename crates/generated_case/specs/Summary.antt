@@ -1,4 +1,4 @@
--- The text that sums a history up.
+-- The text of a summary of a history.
 use Rattle.std.specs.Prelude.{ℕ, List, ◌++◌, codes}
 use Rattle.std.specs.Fmt.{decimal}
 use Rattle.generated_case.specs.declared.counts.Counts.{Counts}
@@ -7,7 +7,7 @@ use Rattle.generated_case.specs.declared.counts.Counts.{Counts}
 abbrev pub count_line : List ℕ → ℕ → List ℕ
 count_line name count = name ++ codes " " ++ decimal count ++ codes "\n"
 
--- the line that says what a case was made from
+-- the line with the numbers that a case was made from
 abbrev pub heading : ℕ → ℕ → List ℕ
 heading rounds actors = codes "gen " ++ decimal rounds ++ codes " actors " ++ decimal actors ++ codes "\n"
 

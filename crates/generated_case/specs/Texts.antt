@@ -19,7 +19,7 @@ numbers_to last = range_with_len 1 last
 abbrev pub new_line : ℕ → List ℕ
 new_line actor = codes "new a" ++ decimal actor ++ codes " top PGen.PLeaf()\n"
 
--- the actor whose turn a round is: each in its turn, over and over
+-- the actor of a round: each in turn, over and over
 abbrev pub actor_of : ℕ → ℕ → ℕ
 actor_of actors round = (round - 1) % actors + 1
 
@@ -35,7 +35,7 @@ send_line message actor value = codes "send a" ++ decimal actor ++ codes " PLeaf
 abbrev pub round_lines : ℕ → ℕ → ℕ → List ℕ
 round_lines rounds actors round = send_line (codes "Ask") (actor_of actors round) (value_of rounds round) ++ send_line (codes "Get") (actor_of actors round) (value_of rounds round)
 
--- the line that lets an actor fall
+-- the line that deletes an actor
 abbrev pub delete_line : ℕ → List ℕ
 delete_line actor = codes "send a" ++ decimal actor ++ codes " PLeaf.__delete__()\n"
 
@@ -44,7 +44,7 @@ abbrev pub handlers_text : List ℕ
 handlers_text =
     codes "parent on PLeaf.Ask\nsend this PLeaf.Back($1)\nreturn ($1)\nend\nparent on PLeaf.Get\nresolve ($1)\nend\nchild on PLeaf.Back\nsend top PGen.Up($1)\nsend top PGen.Up($1)\nreturn ($1)\nend\n"
 
--- the script: the child makes all actors, goes through the rounds, lets all actors fall and closes
+-- the script: the child makes all actors, goes through the rounds, deletes all actors and closes
 abbrev pub script_text : ℕ → ℕ → List ℕ
 script_text rounds actors =
     codes "child main\n" ++ flat_map new_line (numbers_to actors) ++ flat_map (round_lines rounds actors) (numbers_to rounds) ++ flat_map delete_line (numbers_to actors) ++ codes "close\nend\n" ++ handlers_text

@@ -1,3 +1,5 @@
+//! The files and the script of a case.
+
 ghost use Rattle.std.specs.Prelude.{◌≡◌, ◌<◌, ◌≤◌, ◌++◌, IfOk, OnOk, string_bytes};
 ghost use Rattle.std.specs.List.{flat_map};
 ghost use Rattle.generated_case.specs.Texts as texts;
@@ -16,13 +18,13 @@ const LEAF: &str =
 const HANDLERS: &str =
     "parent on PLeaf.Ask\nsend this PLeaf.Back($1)\nreturn ($1)\nend\nparent on PLeaf.Get\nresolve ($1)\nend\nchild on PLeaf.Back\nsend top PGen.Up($1)\nsend top PGen.Up($1)\nreturn ($1)\nend\n";
 
-/// The most bytes of the script apart from what goes with its rounds and actors.
+/// Room for the bytes of the script that do not depend on its rounds and actors.
 const FIXED_ROOM: usize = 256;
 
-/// The most bytes of the script for an actor.
+/// Room for the bytes of the script for one actor.
 const ACTOR_ROOM: usize = 64;
 
-/// The most bytes of the script for a round.
+/// Room for the bytes of the script for one round.
 const ROUND_ROOM: usize = 64;
 
 /// The files and the script of a run that is made from two numbers (docs/gen.md).
@@ -89,14 +91,14 @@ fn push_all_rounds(script: &mut String, rounds: u32, actors: u32) -> Result<(), 
     Ok(())
 }
 
-/// Appends the line that lets an actor fall.
+/// Appends the line that deletes an actor.
 fn push_delete(script: &mut String, actor: u32) -> Result<(), AllocError>
     ensures { OnOk result (string_bytes script.new ≡ string_bytes script.old ++ texts.delete_line actor) }
 {
     write!(script, "send a{actor} PLeaf.__delete__()\n")
 }
 
-/// Appends the lines that let all actors fall.
+/// Appends the lines that delete all actors.
 fn push_all_deletes(script: &mut String, actors: u32) -> Result<(), AllocError>
     requires { actors ≤ 100 }
     ensures { OnOk result (string_bytes script.new ≡ string_bytes script.old ++ flat_map texts.delete_line (texts.numbers_to actors)) }
@@ -107,7 +109,7 @@ fn push_all_deletes(script: &mut String, actors: u32) -> Result<(), AllocError>
     Ok(())
 }
 
-/// The script, in room that is taken once.
+/// Returns the script. Its memory is allocated once.
 fn script_of(alloc: Global, rounds: u32, actors: u32) -> Result<String, AllocError>
     requires rounds { rounds ≤ 1000 }
     requires actors { 1 ≤ actors }
@@ -125,8 +127,8 @@ fn script_of(alloc: Global, rounds: u32, actors: u32) -> Result<String, AllocErr
     Ok(script)
 }
 
-/// The files and the script of so many rounds over so many actors (docs/gen.md). The only error is
-/// want of memory.
+/// Returns the files and the script of this number of rounds over this number of actors (docs/gen.md).
+/// Fails only if memory runs out.
 pub fn generate(alloc: Global, rounds: u32, actors: u32) -> Result<GeneratedCase, AllocError>
     requires some_rounds { 1 ≤ rounds }
     requires rounds { rounds ≤ 1000 }

@@ -1,3 +1,5 @@
+//! Counts of the lines of a history.
+
 ghost use Rattle.std.specs.Prelude.{◌≡◌, ◌&&◌, not};
 ghost use Rattle.ipdl_base.specs.Lines.{is_effect as is_effect_line, same_side};
 ghost use Rattle.generated_case.specs.Counts as count;
@@ -5,8 +7,8 @@ ghost use Rattle.generated_case.specs.Counts as count;
 use history::History;
 use ipdl_base::{Line, Side, What, is_effect};
 
-/// How many lines of a history are events of each side, and how many are what a summary tells
-/// (docs/gen.md).
+/// How many lines of a history are events of each side, and how many are of each kind that a summary
+/// counts (docs/gen.md).
 #[derive(Clone, Copy, Debug, PartialEq, Eq)]
 pub struct Counts {
     /// The events of the parent.
@@ -31,7 +33,7 @@ impl Counts {
     ghost use Rattle.std.specs.Prelude.{[]};
     ghost use Rattle.generated_case.specs.Counts.{AreBelow, counts_of, counts_with};
 
-    /// How many lines of a history are each, found in one pass. Takes no memory.
+    /// Counts the lines of a history, in one pass. Takes no memory.
     pub fn of(history: &History) -> Counts
         ensures { result ≡ counts_of history.now.lines }
     {
@@ -42,7 +44,7 @@ impl Counts {
         counts
     }
 
-    /// The counts of no lines.
+    /// Returns the counts of no lines.
     fn zero() -> Counts
         ensures { result ≡ counts_of [] }
     {
@@ -58,7 +60,7 @@ impl Counts {
         }
     }
 
-    /// The counts with one line more.
+    /// Returns the counts with one more line.
     fn with(self, line: &Line) -> Counts
         requires { AreBelow 18446744073709551615 self }
         ensures { result ≡ counts_with self line.now }
@@ -77,21 +79,21 @@ impl Counts {
     }
 }
 
-/// One where a test holds.
+/// Returns 1 if a test holds, and 0 if not.
 fn one_if(holds: bool) -> usize
     ensures { result ≡ count.one_if holds }
 {
     if holds { 1 } else { 0 }
 }
 
-/// Whether a line is an event of a side.
+/// Returns whether a line is an event of a side.
 fn is_step_of(side: Side, line: &Line) -> bool
     ensures { result ≡ count.is_step_of side line.now }
 {
     line.side == side && !is_effect(&line.what)
 }
 
-/// Whether a line settles a promise.
+/// Returns whether a line settles a promise.
 fn is_settled(what: &What) -> bool
     ensures { result ≡ count.is_settled what.now }
 {

@@ -1,5 +1,5 @@
 //! A case that is made from two numbers: the files and the script of a large run, and the summary of
-//! its history. It knows nothing of how a run goes.
+//! its history. This crate does not run anything.
 #![tactic(auto)]
 
 mod case;

@@ -1,3 +1,5 @@
+//! The text of a summary.
+
 ghost use Rattle.std.specs.Prelude.{◌≡◌, ◌++◌, IfOk, OnOk};
 ghost use Rattle.generated_case.specs.Summary as summary;
 
@@ -15,7 +17,7 @@ fn push_count(out: &mut Vec<u8>, name: &[u8], count: usize) -> Result<(), AllocE
     out.extend_from_slice(b"\n")
 }
 
-/// Appends the line that says what a case was made from.
+/// Appends the line with the numbers that a case was made from.
 fn push_heading(out: &mut Vec<u8>, rounds: u32, actors: u32) -> Result<(), AllocError>
     ensures { OnOk result (out.new.items ≡ out.old.items ++ summary.heading rounds actors) }
 {
@@ -40,8 +42,8 @@ fn push_counts(out: &mut Vec<u8>, counts: &Counts) -> Result<(), AllocError>
     push_count(out, b"fallen", counts.fallen)
 }
 
-/// The text that sums up the history of a case of so many rounds and actors (docs/gen.md). The only
-/// error is want of memory.
+/// Returns the summary of the history of a case with this number of rounds and actors (docs/gen.md).
+/// Fails only if memory runs out.
 pub fn summary_text(
     alloc: Global,
     rounds: u32,

@@ -1,4 +1,4 @@
--- What declarations claim that are read from tokens with that claim.
+-- The claims of declarations that are read from tokens with that claim.
 use Rattle.std.proofs.Common.{ℕ, List, [], ◌∷◌, sym, subst}
 use Rattle.std.specs.List.{AllByRecursion, flat_map}
 use Rattle.ipdl_base.specs.declared.finding.Place.{Place}
@@ -48,7 +48,7 @@ managers_tell : (c : Claim) (all : List NameAt) → Tells (Good c) (more_manager
 managers_tell c [] = nothing_tells tt
 managers_tell c (n ∷ rest) = next_tells reserved_tells (both_tell (name_tells c n) (managers_tell c rest))
 
--- a statement on who manages
+-- a statement on management
 management_tells : (c : Claim) (m : Management) → Tells (Good c) (management m) (AllByRecursion (OfNameAt c) (managers_of m) × AllByRecursion (OfNameAt c) (managed_of m))
 management_tells c (managed_by first others) =
     tells_more (λ e. (e, tt)) (next_tells reserved_tells (both_tell (name_tells c first) (first_tells (managers_tell c others) mark_tells)))
@@ -172,7 +172,7 @@ protocol_file_told : (c : Claim) (name : List ℕ) (place : Place) → OfWord c 
 protocol_file_told of_words name place e = e.0
 protocol_file_told (of_places n) name place e = e.1
 
--- what an include's text does
+-- what an include's text claims
 quoted_told : (c : Claim) (text : List ℕ) (place : Place) → OfPlace c place → OfIncluded c include_kind.Quoted text place
 quoted_told of_words text place e = tt
 quoted_told (of_places n) text place e = e
@@ -183,7 +183,7 @@ included_tells c include_kind.Protocol name place = tells_more (protocol_file_to
 included_tells c include_kind.Header name place = tells_more (header_told c name place) (identifier_tells c)
 included_tells c include_kind.Quoted text place = tells_more (quoted_told c text place) (quoted_tells c)
 
--- what an include claims is what it names does
+-- an include claims what its name claims
 include_told : (c : Claim) (i : Include) → OfIncluded c i.kind i.name i.place → OfInclude c i
 include_told of_words i e = e
 include_told (of_places n) i e = e

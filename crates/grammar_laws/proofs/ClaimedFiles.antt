@@ -1,4 +1,5 @@
--- What files claim that are read from tokens with that claim, so the names in a tree are words, and its places are in one file.
+-- The claims of files that are read from tokens with that claim. So the names in a tree are words, and its places are
+-- in one file.
 use Rattle.std.proofs.Common.{ℕ, ◌-◌, List, [], ◌∷◌, ◌++◌, Option, Some, None, sym, subst}
 use Rattle.std.specs.Prelude.{IfSome}
 use Rattle.std.specs.List.{AllByRecursion}
@@ -45,11 +46,11 @@ and_told c a b x y = record {
   unions = both_all (OfUnion c) a.unions b.unions x.unions y.unions;
 }
 
--- a namespace round what it holds, where its name is known
+-- a namespace around its content, if its name is known
 namespace_tells : (c : Claim) (name : List ℕ) {P : Part} {Told : Type 0} → (OfWord c name → Tells (Good c) P Told) → Tells (Good c) (in_namespace name P) Told
 namespace_tells c name f = next_tells reserved_tells (tells_more (λ e. e.1) (given_tell (word_tells c) (λ w. next_tells mark_tells (first_tells (f w) mark_tells))))
 
--- what stands in a namespace
+-- the declarations in a namespace
 inside_tells : (c : Claim) (room : ℕ) (scope : List (List ℕ)) (a : Inside) → AllByRecursion (OfWord c) scope → Tells (Good c) (inside room scope a) (OfDeclared c (declared_inside a))
 inside_tells c room scope inside_end all = nothing_tells (none_told c)
 inside_tells c room scope (inside_struct s rest) all =
@@ -61,7 +62,7 @@ inside_tells c room scope (inside_namespace name held rest) all =
     (both_tell (provided_tells (λ deep. namespace_tells c name (λ w. inside_tells c (room - 1) (scope ++ name ∷ []) held (all_and_one (OfWord c) scope name all w))))
     (inside_tells c room scope rest all))
 
--- what stands outside of all namespaces
+-- the declarations outside of all namespaces
 outside_tells : (c : Claim) (a : Outside) → Tells (Good c) (outside a) (OfDeclared c (declared_outside a))
 outside_tells c outside_end = nothing_tells (none_told c)
 outside_tells c (outside_include i rest) =
@@ -76,7 +77,7 @@ outside_tells c (outside_namespace name held rest) =
     tells_more (λ e. and_told c (declared_inside held) (declared_outside rest) e.0 e.1)
     (both_tell (namespace_tells c name (λ w. inside_tells c 15 (name ∷ []) held (w, tt))) (outside_tells c rest))
 
--- the protocol and what is round it
+-- the protocol and the declarations around it
 holder_tells : (c : Claim) (room : ℕ) (scope : List (List ℕ)) (h : Holder) → AllByRecursion (OfWord c) scope → Tells (Good c) (holder room scope h) (OfDeclared c (declared_round h) × OfProtocol c (protocol_of h))
 holder_tells c room scope (holder_protocol p) all = tells_more (λ e. (none_told c, e)) (protocol_tells c scope p all)
 holder_tells c room scope (holder_namespace name before held after) all =

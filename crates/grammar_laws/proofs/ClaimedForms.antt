@@ -1,4 +1,4 @@
--- What the forms of the grammar claim that are read from tokens with that claim: names, attributes, types and messages.
+-- The claims of the forms of the grammar that are read from tokens with that claim: names, attributes, types and messages.
 use Rattle.std.proofs.Common.{◌≡◌, ℕ, ◌-◌, Bool, true, false, List, [], ◌∷◌, ◌++◌, Option, Some, None, subst}
 use Rattle.std.specs.Prelude.{IfSome}
 use Rattle.std.specs.List.{AllByRecursion}
@@ -30,7 +30,7 @@ pub identifier_tells : (c : Claim) {name : List ℕ} {place : Place} → Tells (
 identifier_tells of_words = token_tells (λ t g i. (subst IsWord i.1 (g i.0), tt))
 identifier_tells (of_places n) = token_tells (λ t g i. (tt, subst (IsIn n) i.2 g))
 
--- a part whose first token stands at this place
+-- a part whose first token is at this place
 pub at_tells : (c : Claim) {place : Place} {P : Part} {Told : Type 0} → Tells (Good c) P Told → Tells (Good c) (at place P) (OfPlace c place × Told)
 at_tells of_words p = record { tell = λ from to (t, rest, te, pe, d) g. let r = p.tell from to d g in ((tt, r.0), r.1) }
 at_tells (of_places n) p = record {
@@ -40,7 +40,7 @@ at_tells (of_places n) p = record {
       ((subst (IsIn n) pe all.0, r.0), r.1);
 }
 
--- words behind `::`
+-- words after `::`
 words_tell : (c : Claim) (ws : List (List ℕ)) → Tells (Good c) (words ws) (AllByRecursion (OfWord c) ws)
 words_tell c [] = nothing_tells tt
 words_tell c (w ∷ ws) = next_tells mark_tells (both_tell (word_tells c) (words_tell c ws))
@@ -68,7 +68,7 @@ argument_tells c (Some name) = next_tells mark_tells (first_tells (qualified_tel
 pub named_tells : (c : Claim) (name : List ℕ) (inner : Option (List ℕ)) → Tells (Good c) (named name inner) (OfName c name × IfSome inner (OfName c))
 named_tells c name inner = both_tell (qualified_tells c name) (argument_tells c inner)
 
--- a word behind words
+-- a word after words
 pub all_and_one : (P : List ℕ → Type 0) (scope : List (List ℕ)) (name : List ℕ) → AllByRecursion P scope → P name → AllByRecursion P (scope ++ name ∷ [])
 all_and_one P scope name all one = both_all P scope (name ∷ []) all (one, tt)
 
@@ -120,7 +120,7 @@ nullable_tells : (c : Claim) (nullable : Bool) → Tells (Good c) (nullable_word
 nullable_tells c true = reserved_tells
 nullable_tells c false = nothing_tells tt
 
--- a type round its base
+-- a type around its base
 round_tells : (c : Claim) (nullable : Bool) (after : List Suffix) (place : Place) {P : Part} {Told : Type 0} → Tells (Good c) P Told → Tells (Good c) (type_round nullable P after place) (OfPlace c place × Told)
 round_tells c nullable after place p = provided_tells (λ few. next_tells (nullable_tells c nullable) (first_tells (at_tells c p) (suffixes_tell c after)))
 
@@ -129,7 +129,7 @@ named_told : (c : Claim) (name : List ℕ) (inner : Option (List ℕ)) → OfNam
 named_told of_words name inner e = e
 named_told (of_places n) name inner e = tt
 
--- what a UniquePtr does
+-- what a UniquePtr claims
 unique_told : (c : Claim) (at_box : _) (nullable : Bool) (inner : Base) (after : List Suffix) (place : Place) → OfPlace c place × OfBase c inner → OfBase c (Unique' at_box nullable inner after place)
 unique_told of_words at_box nullable inner after place e = e.1
 unique_told (of_places n) at_box nullable inner after place e = e
@@ -172,7 +172,7 @@ params_tell : (c : Claim) (all : List Param) → Tells (Good c) (params all) (Al
 params_tell c [] = nothing_tells tt
 params_tell c (p ∷ rest) = both_tell (param_tells c p) (more_params_tell c rest)
 
--- what a message returns
+-- the returns of a message
 returns_tell : (c : Claim) (all : Option (List Param)) → Tells (Good c) (returns all) (IfSome all (AllByRecursion (OfParam c)))
 returns_tell c None = nothing_tells tt
 returns_tell c (Some all) = next_tells reserved_tells (next_tells mark_tells (first_tells (params_tell c all) mark_tells))

@@ -1,4 +1,4 @@
--- The two claims on all that a file's tree holds, of each of its parts.
+-- The two claims on all parts of a file's tree.
 use Rattle.std.proofs.Common.{◌≡◌, ℕ, List}
 use Rattle.std.specs.List.{AllByRecursion}
 use Rattle.ipdl_base.specs.declared.finding.Place.{Place}
@@ -26,7 +26,7 @@ pub data Claim : Type 0 where
   of_words : Claim
   of_places : ℕ → Claim
 
--- what the claim says of a token
+-- the claim of a token
 abbrev pub Good : Claim → Token → Type 0
 Good of_words t = t.kind ≡ Word → IsWord t.text
 Good (of_places n) t = t.place.file ≡ n

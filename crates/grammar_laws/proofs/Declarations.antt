@@ -19,12 +19,12 @@ use Rattle.grammar_laws.proofs.Names.{attributes_settle, declared_settles, forei
 use Rattle.grammar_laws.proofs.Types.{past_type, type_settles, type_begins}
 use Rattle.grammar_laws.proofs.Messages.{identifier_begins, same_param}
 
--- behind the fields of a struct and the components of a union
+-- after the fields of a struct and the components of a union
 abbrev closed : Test
 closed = is_mark (codes "}")
 
 -- fields are the same
-field_settles : (p q : Param) {behind : Test} → Settles (field p) (field q) behind (unboxed_param p ≡ unboxed_param q)
+field_settles : (p q : Param) {following : Test} → Settles (field p) (field q) following (unboxed_param p ≡ unboxed_param q)
 field_settles p q =
     provided_settles (λ a b. told (λ e. same_param p q (a ∙ sym b) e.0 e.1.0.0 e.1.0.1)
     (both_settle (type_settles p.spec q.spec) (begins_first (identifier_begins past_type (λ text. refl))) (begins_first (identifier_begins past_type (λ text. refl)))
@@ -41,12 +41,12 @@ fields_settle [] (y ∷ ys) = none_some (begins_first (begins_provided (begins_f
 fields_settle (x ∷ xs) [] = some_none (begins_first (begins_provided (begins_first (type_opens x.spec))))
 fields_settle (x ∷ xs) (y ∷ ys) = told (λ e. cc) (next_settle (field_settles x y) (fields_settle xs ys))
 
--- a struct is all that is written of it
+-- a struct is determined by its parts
 same_struct : (s r : StructDecl) → s.attributes ≡ r.attributes → s.full ≡ r.full → s.place ≡ r.place → map unboxed_param s.fields ≡ map unboxed_param r.fields → unboxed_struct s ≡ unboxed_struct r
 same_struct s r a f p l = λ i. record { full = f i; place = p i; fields = l i; attributes = a i }
 
 -- structs in the same namespaces are the same
-pub struct_settles : (scope : List (List ℕ)) (s r : StructDecl) {behind : Test} → Settles (struct_decl scope s) (struct_decl scope r) behind (unboxed_struct s ≡ unboxed_struct r)
+pub struct_settles : (scope : List (List ℕ)) (s r : StructDecl) {following : Test} → Settles (struct_decl scope s) (struct_decl scope r) following (unboxed_struct s ≡ unboxed_struct r)
 struct_settles scope s r =
     told (λ e. same_struct s r e.0 e.1.1.0.0 e.1.1.0.1 e.1.1.1.1.0)
     (both_settle (attributes_settle s.attributes r.attributes) (begins_first (begins_reserved refl)) (begins_first (begins_reserved refl))
@@ -61,26 +61,26 @@ components_settle (x ∷ xs) [] = some_none (begins_first (type_opens x))
 components_settle (x ∷ xs) (y ∷ ys) =
     told (λ e. cc) (both_settle (type_settles x y) (begins_first (begins_mark refl)) (begins_first (begins_mark refl)) (next_settle mark_settles (components_settle xs ys)))
 
--- a union is all that is written of it
+-- a union is determined by its parts
 same_union : (u v : UnionDecl) → u.attributes ≡ v.attributes → u.full ≡ v.full → u.place ≡ v.place → map unboxed_type u.components ≡ map unboxed_type v.components → unboxed_union u ≡ unboxed_union v
 same_union u v a f p l = λ i. record { full = f i; place = p i; components = l i; attributes = a i }
 
 -- unions in the same namespaces are the same
-pub union_settles : (scope : List (List ℕ)) (u v : UnionDecl) {behind : Test} → Settles (union_decl scope u) (union_decl scope v) behind (unboxed_union u ≡ unboxed_union v)
+pub union_settles : (scope : List (List ℕ)) (u v : UnionDecl) {following : Test} → Settles (union_decl scope u) (union_decl scope v) following (unboxed_union u ≡ unboxed_union v)
 union_settles scope u v =
     provided_settles (λ a b. told (λ e. same_union u v e.0 e.1.1.0.0 e.1.1.0.1 e.1.1.1.1.0)
     (both_settle (attributes_settle u.attributes v.attributes) (begins_first (begins_reserved refl)) (begins_first (begins_reserved refl))
     (next_settle reserved_settles (next_settle (declared_settles scope u.full v.full u.place v.place) (next_settle mark_settles
     (both_settle (components_settle u.components v.components) (begins_first (begins_mark refl)) (begins_first (begins_mark refl)) (next_settle mark_settles mark_settles)))))))
 
--- the word that may stand before what is used
+-- the word that may come before what is used
 abbrev used_word : Part
 used_word = either nothing (either (reserved (codes "class")) (reserved (codes "struct")))
 
--- that word is there in both or in neither
+-- both have the word, or neither has it
 used_word_settles : Settles used_word used_word is_word (Unit {0})
 used_word_settles =
-    let bare = begins_nothing {behind = is_word} {test = is_word} (λ h b. b) in
+    let bare = begins_nothing {following = is_word} {test = is_word} (λ h b. b) in
     either_settles
     (nothing_settles tt)
     (apart is_word bare (begins_either (begins_reserved refl) (begins_reserved refl)))
@@ -91,12 +91,12 @@ used_word_settles =
     (apart (is_reserved (codes "struct")) (begins_reserved refl) (begins_reserved refl))
     reserved_settles)
 
--- a using is all that is written of it
+-- a using is determined by its parts
 same_using : (u v : Using) → u.attributes ≡ v.attributes → u.full ≡ v.full → u.place ≡ v.place → u ≡ v
 same_using u v a f p = λ i. record { full = f i; place = p i; attributes = a i }
 
 -- usings are the same
-pub using_settles : (u v : Using) {behind : Test} → Settles (using_decl u) (using_decl v) behind (u ≡ v)
+pub using_settles : (u v : Using) {following : Test} → Settles (using_decl u) (using_decl v) following (u ≡ v)
 using_settles u v =
     told (λ e. same_using u v e.0 e.1.1.1.0.1 e.1.1.1.0.0)
     (both_settle (attributes_settle u.attributes v.attributes) (begins_first (begins_reserved refl)) (begins_first (begins_reserved refl))
@@ -105,16 +105,16 @@ using_settles u v =
     (both_settle (at_settles (foreign_settles u.full v.full)) (begins_first (begins_reserved refl)) (begins_first (begins_reserved refl))
     (next_settle reserved_settles (next_settle (token_settles {Told = Unit {0}} (λ t i j. tt)) mark_settles))))))
 
--- what two includes tell
+-- what follows from two includes
 abbrev IncludedTold : IncludeKind → IncludeKind → List ℕ → List ℕ → Place → Place → Type 0
 IncludedTold k l n m p q = (k ≡ l) × (n ≡ m) × (p ≡ q)
 
 -- a quoted text passes each test that all of them pass
-quoted_begins : {text : List ℕ} {place : Place} {behind : Test} (test : Test) → ((x : List ℕ) → test (a_head kind.Quoted x) ≡ true) → Begins (quoted text place) behind test
+quoted_begins : {text : List ℕ} {place : Place} {following : Test} (test : Test) → ((x : List ℕ) → test (a_head kind.Quoted x) ≡ true) → Begins (quoted text place) following test
 quoted_begins test e = begins_token (λ t i. ap (λ k. test (a_head k t.text)) i.0 ∙ e t.text)
 
 -- what is included is the same
-included_settles : (k l : IncludeKind) (n m : List ℕ) (p q : Place) {behind : Test} → Settles (included k n p) (included l m q) behind (IncludedTold k l n m p q)
+included_settles : (k l : IncludeKind) (n m : List ℕ) (p q : Place) {following : Test} → Settles (included k n p) (included l m q) following (IncludedTold k l n m p q)
 included_settles include_kind.Protocol include_kind.Protocol n m p q = told (λ e. (refl, e.1.0, e.1.1)) (next_settle reserved_settles identifier_settles)
 included_settles include_kind.Header include_kind.Header n m p q = told (λ e. (refl, e.0, e.1)) identifier_settles
 included_settles include_kind.Quoted include_kind.Quoted n m p q = told (λ e. (refl, e.0, e.1)) quoted_settles
@@ -130,5 +130,5 @@ same_include : (a b : Include) → IncludedTold a.kind b.kind a.name b.name a.pl
 same_include a b e = λ i. record { kind = e.0 i; name = e.1 i; place = e.2 i }
 
 -- includes are the same
-pub include_settles : (a b : Include) {behind : Test} → Settles (include a) (include b) behind (a ≡ b)
+pub include_settles : (a b : Include) {following : Test} → Settles (include a) (include b) following (a ≡ b)
 include_settles a b = told (λ e. same_include a b e.1.0) (next_settle reserved_settles (next_settle (included_settles a.kind b.kind a.name b.name a.place b.place) mark_settles))

@@ -1,4 +1,4 @@
--- Each tree is a row of pieces, so some tokens have one tree.
+-- Each tree is a row of pieces, so tokens have one tree.
 use Rattle.std.proofs.Common.{◌≡◌, ℕ, ◌-◌, List, [], ◌∷◌, ◌++◌, Option, Some, None, refl, sym, ap, subst, ◌∙◌}
 use Rattle.ipdl_base.specs.declared.token.Token.{Token}
 use Rattle.ipdl_syntax.specs.declared.tree.FileKind.{FileKind}
@@ -13,14 +13,14 @@ use Rattle.grammar_laws.specs.Laws.{HasOneTree}
 use Rattle.grammar_laws.proofs.Pieces.{Piece, the_include, the_using, the_struct, the_union, the_protocol, opening, closing, Scopes, innermost, row, declared_row, protocol_in, row_unit}
 use Rattle.grammar_laws.proofs.Rows.{row_settles}
 
--- the pieces of what stands in a namespace, and more behind them
+-- the pieces of the declarations in a namespace, and more after them
 abbrev pieces_inside : Inside → List Piece → List Piece
 pieces_inside inside_end more = more
 pieces_inside (inside_struct s rest) more = the_struct s ∷ pieces_inside rest more
 pieces_inside (inside_union u rest) more = the_union u ∷ pieces_inside rest more
 pieces_inside (inside_namespace name held rest) more = opening name ∷ pieces_inside held (closing ∷ pieces_inside rest more)
 
--- the pieces of what stands outside of all namespaces, and more behind them
+-- the pieces of the declarations outside of all namespaces, and more after them
 abbrev pieces_outside : Outside → List Piece → List Piece
 pieces_outside outside_end more = more
 pieces_outside (outside_include i rest) more = the_include i ∷ pieces_outside rest more
@@ -29,12 +29,12 @@ pieces_outside (outside_struct s rest) more = the_struct s ∷ pieces_outside re
 pieces_outside (outside_union u rest) more = the_union u ∷ pieces_outside rest more
 pieces_outside (outside_namespace name held rest) more = opening name ∷ pieces_inside held (closing ∷ pieces_outside rest more)
 
--- the pieces of the protocol and what is round it, and more behind them
+-- the pieces of the protocol and of the declarations around it, and more after them
 abbrev pieces_round : Holder → List Piece → List Piece
 pieces_round (holder_protocol p) more = the_protocol p ∷ more
 pieces_round (holder_namespace name before held after) more = opening name ∷ pieces_inside before (pieces_round held (pieces_inside after (closing ∷ more)))
 
--- these pieces stand where the form stands
+-- the pieces of the declarations in a namespace are read from the same tokens
 row_inside : (a : Inside) (room : ℕ) (scopes : Scopes) (more : List Piece) (from middle to : List Token) → inside room (innermost scopes) a from middle → row scopes more middle to → row scopes (pieces_inside a more) from to
 row_inside inside_end room scopes more from middle to d k = subst (λ (x : List Token). row scopes more x to) (sym d) k
 row_inside (inside_struct s rest) room scopes more from middle to (m, d, e) k = (m, d, row_inside rest room scopes more m middle to e k)
@@ -42,7 +42,7 @@ row_inside (inside_union u rest) room scopes more from middle to (m, d, e) k = (
 row_inside (inside_namespace name held rest) room scopes more from middle to (m, (pos, (n, w, (o, x, (p, y, (q, hd, z))))), e) k =
     (n, w, (o, x, (p, y, row_inside held (room - 1) ((innermost scopes ++ name ∷ []) ∷ scopes) (closing ∷ pieces_inside rest more) p q to hd (m, z, row_inside rest room scopes more m middle to e k))))
 
--- so do those outside of all namespaces
+-- the same of the declarations outside of all namespaces
 row_outside : (a : Outside) (more : List Piece) (from middle to : List Token) → outside a from middle → row [] more middle to → row [] (pieces_outside a more) from to
 row_outside outside_end more from middle to d k = subst (λ (x : List Token). row [] more x to) (sym d) k
 row_outside (outside_include i rest) more from middle to (m, d, e) k = (m, d, row_outside rest more m middle to e k)
@@ -52,7 +52,7 @@ row_outside (outside_union u rest) more from middle to (m, d, e) k = (m, d, row_
 row_outside (outside_namespace name held rest) more from middle to (m, (n, w, (o, x, (p, y, (q, hd, z)))), e) k =
     (n, w, (o, x, (p, y, row_inside held 15 ((name ∷ []) ∷ []) (closing ∷ pieces_outside rest more) p q to hd (m, z, row_outside rest more m middle to e k))))
 
--- so do those of the protocol and what is round it
+-- the same of the protocol and the declarations around it
 row_round : (h : Holder) (room : ℕ) (scopes : Scopes) (more : List Piece) (from middle to : List Token) → holder room (innermost scopes) h from middle → row scopes more middle to → row scopes (pieces_round h more) from to
 row_round (holder_protocol p) room scopes more from middle to d k = (middle, d, k)
 row_round (holder_namespace name before held after) room scopes more from middle to (pos, (n, w, (o, x, (p, y, (q, (r, bd, (s, hd, ad)), z))))) k =
@@ -82,7 +82,7 @@ declares_inside (inside_namespace name held rest) more =
     ∙ ap (λ (x : Declarations). declared_inside held & x) (declares_inside rest more)
     ∙ sym (and_assoc (declared_inside held) (declared_inside rest) (declared_row more))
 
--- so do those outside of all namespaces
+-- the same of the declarations outside of all namespaces
 declares_outside : (a : Outside) (more : List Piece) → declared_row (pieces_outside a more) ≡ declared_outside a & declared_row more
 declares_outside outside_end more = refl
 declares_outside (outside_include i rest) more = ap (λ (x : Declarations). an_include i & x) (declares_outside rest more)
@@ -94,7 +94,7 @@ declares_outside (outside_namespace name held rest) more =
     ∙ ap (λ (x : Declarations). declared_inside held & x) (declares_outside rest more)
     ∙ sym (and_assoc (declared_inside held) (declared_outside rest) (declared_row more))
 
--- so do those of the protocol and what is round it
+-- the same of the protocol and the declarations around it
 declares_round : (h : Holder) (more : List Piece) → declared_row (pieces_round h more) ≡ declared_round h & declared_row more
 declares_round (holder_protocol p) more = refl
 declares_round (holder_namespace name before held after) more =
@@ -112,7 +112,7 @@ none_inside (inside_struct s rest) more = none_inside rest more
 none_inside (inside_union u rest) more = none_inside rest more
 none_inside (inside_namespace name held rest) more = none_inside held (closing ∷ pieces_inside rest more) ∙ none_inside rest more
 
--- nor among those outside of all namespaces
+-- no protocol is among the pieces outside of all namespaces
 none_outside : (a : Outside) (more : List Piece) → protocol_in (pieces_outside a more) ≡ protocol_in more
 none_outside outside_end more = refl
 none_outside (outside_include i rest) more = none_outside rest more
@@ -121,13 +121,13 @@ none_outside (outside_struct s rest) more = none_outside rest more
 none_outside (outside_union u rest) more = none_outside rest more
 none_outside (outside_namespace name held rest) more = none_inside held (closing ∷ pieces_outside rest more) ∙ none_outside rest more
 
--- the protocol is the first among the pieces round it
+-- the protocol is the first protocol among the pieces around it
 one_round : (h : Holder) (more : List Piece) → protocol_in (pieces_round h more) ≡ Some (protocol_of h)
 one_round (holder_protocol p) more = refl
 one_round (holder_namespace name before held after) more =
     none_inside before (pieces_round held (pieces_inside after (closing ∷ more))) ∙ one_round held (pieces_inside after (closing ∷ more))
 
--- a row that is all tokens, and makes this file
+-- a row that takes all tokens, and makes this file
 abbrev IsRow : List Token → FileUnit → Type 0
 IsRow tokens unit = (pieces : List Piece) × row [] pieces tokens [] × (unit ≡ row_unit pieces)
 

@@ -5,7 +5,7 @@ use Rattle.ipdl_syntax.specs.declared.tree.Base.{Base, Named, Unique'}
 use Rattle.ipdl_syntax.specs.Grammar.{base}
 use Rattle.grammar_laws.specs.Laws.{depth, HasFewSuffixes, LimitsHold}
 
--- a base nests no deeper than there is room for
+-- a base nests no deeper than there is room
 base_limits : (b : Base) (room : ℕ) (from to : List Token) → base room b from to → (depth b ≤ room) × HasFewSuffixes b
 base_limits (Named name inner) room from to p = (omega arith, tt)
 base_limits (Unique' _ nullable inner after place) room from to p =

@@ -10,15 +10,15 @@ use Rattle.ipdl_syntax.specs.Grammar.{words, qualified, argument, named, whole_n
 use Rattle.grammar_laws.proofs.Heads.{a_head, Test, always, is_word, is_mark, of_mark, both_true}
 use Rattle.grammar_laws.proofs.Settling.{Settles, Begins, begins_nothing, begins_token, begins_mark, begins_both, begins_first, told, nothing_settles, token_settles, mark_settles, word_settles, identifier_settles, both_settle, next_settle, none_some, some_none}
 
--- what stands behind the words of a name
+-- what follows the words of a name
 abbrev pub past_words : Test
 past_words h = not (is_mark (codes "::") h)
 
--- what stands behind a name with its argument
+-- what follows a name with its argument
 abbrev pub past_name : Test
 past_name h = past_words h && not (is_mark (codes "<") h)
 
--- the words behind `::` are the same
+-- the words after `::` are the same
 pub words_settle : (ws vs : List (List ℕ)) → Settles (words ws) (words vs) past_words (ws ≡ vs)
 words_settle [] [] = nothing_settles refl
 words_settle [] (v ∷ vs) = none_some (begins_first (begins_mark refl))
@@ -31,7 +31,7 @@ same_joined name other first first' ws vs e e' f g =
     let same : first ∷ ws ≡ first' ∷ vs = cc in
     e ∙ ap joined same ∙ sym e'
 
--- so are names with their namespaces
+-- the same of names with their namespaces
 pub qualified_settles : (name other : List ℕ) → Settles (qualified name) (qualified other) past_words (name ≡ other)
 qualified_settles name other = record {
   settle = λ from to to' (first, ws, e, d) (first', vs, e', d') b b'.
@@ -48,7 +48,7 @@ qualified_begins name = record {
       s.begun from to d b;
 }
 
--- an argument, or what is behind where there is none, ends the words before it
+-- an argument, or what follows if there is no argument, ends the words before it
 argument_begins : (inner : Option (List ℕ)) → Begins (argument inner) past_name past_words
 argument_begins None = begins_nothing (λ h b. (both_true (past_words h) _ b).0)
 argument_begins (Some name) = begins_first (begins_mark refl)
@@ -81,14 +81,14 @@ pub foreign_begins : (full : List ℕ) → Begins (foreign_name full) always is_
 foreign_begins full = record { begun = λ from to (name, inner, e, d) b. (named_begins name inner).begun from to d b }
 
 -- in the same namespaces the declared names and their places are the same
-pub declared_settles : (scope : List (List ℕ)) (full other : List ℕ) (p q : Place) {behind : Test} → Settles (declared scope full p) (declared scope other q) behind ((full ≡ other) × (p ≡ q))
+pub declared_settles : (scope : List (List ℕ)) (full other : List ℕ) (p q : Place) {following : Test} → Settles (declared scope full p) (declared scope other q) following ((full ≡ other) × (p ≡ q))
 declared_settles scope full other p q = token_settles (λ t i j. (i.1 ∙ sym j.1, sym i.2 ∙ j.2))
 
--- what stands behind an attribute
+-- what follows an attribute
 abbrev pub past_value : Test
 past_value h = not (is_mark (codes "=") h)
 
--- what stands behind attributes in brackets
+-- what follows attributes in brackets
 abbrev pub past_attributes : Test
 past_attributes h = not (is_mark (codes "[") h)
 
@@ -107,11 +107,11 @@ same_attribute a b n v p = λ i. record { name = n i; value = v i; place = p i }
 attribute_settles : (a b : Attribute) → Settles (attribute a) (attribute b) past_value (a ≡ b)
 attribute_settles a b = told (λ e. same_attribute a b e.0.0 e.1 e.0.1) (next_settle identifier_settles (value_settles a.value b.value))
 
--- behind the last attribute in brackets
+-- after the last attribute in brackets
 abbrev closed : Test
 closed = is_mark (codes "]")
 
--- further attributes, or what is behind, end the attribute before
+-- further attributes, or what follows, end the attribute before
 more_begins : (rest : List Attribute) → Begins (more_attributes rest) closed past_value
 more_begins [] = begins_nothing (of_mark (codes "]") past_value refl)
 more_begins (a ∷ rest) = begins_first (begins_mark refl)
@@ -133,7 +133,7 @@ attributes_settle (x ∷ xs) (y ∷ ys) =
     (next_settle mark_settles (both_settle (attribute_settles x y) (begins_both (more_begins xs) (begins_mark refl)) (begins_both (more_begins ys) (begins_mark refl))
     (both_settle (more_settle xs ys) (begins_mark refl) (begins_mark refl) mark_settles)))
 
--- attributes, and behind them what passes a test that a bracket passes too
-pub attributes_begin : {behind : Test} (xs : List Attribute) (test : Test) {P : Part} → test (a_head kind.Mark (codes "[")) ≡ true → Begins P behind test → Begins (attributes xs ⨾ P) behind test
+-- attributes, and after them what passes a test that a bracket passes too
+pub attributes_begin : {following : Test} (xs : List Attribute) (test : Test) {P : Part} → test (a_head kind.Mark (codes "[")) ≡ true → Begins P following test → Begins (attributes xs ⨾ P) following test
 attributes_begin [] test e p = begins_both (begins_nothing (λ h b. b)) p
 attributes_begin (x ∷ xs) test e p = begins_first (begins_first (begins_mark e))

@@ -1,4 +1,4 @@
--- A file as a row of pieces, one behind the other, whatever namespaces they stand in.
+-- A file as a row of pieces, one after the other, whatever namespaces they are in.
 use Rattle.std.proofs.Common.{ℕ, List, [], ◌∷◌, ◌++◌, Option, Some, None, codes}
 use Rattle.ipdl_syntax.specs.declared.tree.Include.{Include}
 use Rattle.ipdl_syntax.specs.declared.tree.ProtocolDecl.{ProtocolDecl}
@@ -20,16 +20,16 @@ pub data Piece : Type 0 where
   opening : List ℕ → Piece
   closing : Piece
 
--- the names of the namespaces that are open, for each of them with those round it
+-- the names of the open namespaces, each with those around it
 abbrev pub Scopes : Type 0
 Scopes = List (List (List ℕ))
 
--- the namespaces round what is declared now
+-- the namespaces around the next declaration
 abbrev pub innermost : Scopes → List (List ℕ)
 innermost [] = []
 innermost (scope ∷ outer) = scope
 
--- the open namespaces once the innermost is closed
+-- the open namespaces after the innermost is closed
 abbrev pub around : Scopes → Scopes
 around [] = []
 around (scope ∷ outer) = outer

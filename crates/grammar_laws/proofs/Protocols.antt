@@ -19,7 +19,7 @@ use Rattle.grammar_laws.proofs.Names.{past_attributes, attributes_settle, declar
 use Rattle.grammar_laws.proofs.Messages.{past_messages, messages_settle}
 
 -- the words that begin sections are the same
-direction_settles : (d e : Direction) {behind : Test} → Settles (reserved (direction_word d)) (reserved (direction_word e)) behind (d ≡ e)
+direction_settles : (d e : Direction) {following : Test} → Settles (reserved (direction_word d)) (reserved (direction_word e)) following (d ≡ e)
 direction_settles Parent Parent = told (λ e. refl) reserved_settles
 direction_settles Child Child = told (λ e. refl) reserved_settles
 direction_settles Both Both = told (λ e. refl) reserved_settles
@@ -37,11 +37,11 @@ section_begins Both test e f g = begins_reserved g
 section_settles : (s r : MessageSection) → Settles (section s) (section r) past_messages (map unboxed_message s.messages ≡ map unboxed_message r.messages)
 section_settles s r = told (λ e. e.1.1 e.0) (next_settle (direction_settles s.direction r.direction) (next_settle mark_settles (messages_settle s.direction r.direction s.messages r.messages)))
 
--- behind the sections of a protocol
+-- after the sections of a protocol
 abbrev closed : Test
 closed = is_mark (codes "}")
 
--- further sections, or what is behind, end the messages before
+-- further sections, or what follows, end the messages before
 sections_begin : (xs : List MessageSection) → Begins (sections xs) closed past_messages
 sections_begin [] = begins_nothing (of_mark (codes "}") past_messages refl)
 sections_begin (x ∷ xs) = begins_first (begins_first (section_begins x.direction past_messages refl refl refl))
@@ -50,7 +50,7 @@ sections_begin (x ∷ xs) = begins_first (begins_first (section_begins x.directi
 abbrev all_messages : List MessageSection → List MessageDecl
 all_messages = flat_map (λ (s : MessageSection). s.messages)
 
--- the messages of two lists that are the same, one behind the other
+-- the messages of two lists that are the same, one after the other
 more_messages : (m n : List MessageDecl) (xs ys : List MessageDecl) → map unboxed_message m ≡ map unboxed_message n → map unboxed_message xs ≡ map unboxed_message ys → map unboxed_message (m ++ xs) ≡ map unboxed_message (n ++ ys)
 more_messages m n xs ys e f =
     map-append unboxed_message m xs
@@ -72,10 +72,10 @@ same_name : (n m : NameAt) → n.name ≡ m.name → n.place ≡ m.place → n �
 same_name n m e f = λ i. record { name = e i; place = f i }
 
 -- names at their places are the same
-name_settles : (n m : NameAt) {behind : Test} → Settles (identifier n.name n.place) (identifier m.name m.place) behind (n ≡ m)
+name_settles : (n m : NameAt) {following : Test} → Settles (identifier n.name n.place) (identifier m.name m.place) following (n ≡ m)
 name_settles n m = told (λ e. same_name n m e.0 e.1) identifier_settles
 
--- behind a management
+-- after a management
 abbrev ended : Test
 ended = is_mark (codes ";")
 
@@ -86,8 +86,8 @@ managers_settle [] (y ∷ ys) = none_some (begins_first (begins_reserved refl))
 managers_settle (x ∷ xs) [] = some_none (begins_first (begins_reserved refl))
 managers_settle (x ∷ xs) (y ∷ ys) = told (λ e. cc) (next_settle reserved_settles (next_settle (name_settles x y) (managers_settle xs ys)))
 
--- statements on who manages are the same
-management_settles : (m n : Management) {behind : Test} → Settles (management m) (management n) behind (m ≡ n)
+-- statements on management are the same
+management_settles : (m n : Management) {following : Test} → Settles (management m) (management n) following (m ≡ n)
 management_settles (managed_by x xs) (managed_by y ys) =
     told (λ e. cc) (next_settle reserved_settles (next_settle (name_settles x y)
     (both_settle (managers_settle xs ys) (begins_mark refl) (begins_mark refl) mark_settles)))
@@ -107,7 +107,7 @@ managements_settle [] (y ∷ ys) = none_some (begins_first (management_begins y)
 managements_settle (x ∷ xs) [] = some_none (begins_first (management_begins x))
 managements_settle (x ∷ xs) (y ∷ ys) = told (λ e. cc) (next_settle (management_settles x y) (managements_settle xs ys))
 
--- what stands behind the word for a protocol's semantics
+-- what follows the word for a protocol's semantics
 abbrev is_protocol : Test
 is_protocol = is_reserved (codes "protocol")
 
@@ -126,8 +126,8 @@ semantics_settle Async Async = either_settles
     (some_none (begins_reserved refl))
     (told (λ e. refl) reserved_settles)
 
--- a protocol's word for its semantics and what is behind it begin with what passes each test that these pass
-pub semantics_begin : (s : Semantics) (test : Test) {P : Part} {behind : Test} → test (a_head kind.Reserved (codes "sync")) ≡ true → test (a_head kind.Reserved (codes "async")) ≡ true → test (a_head kind.Reserved (codes "protocol")) ≡ true → Begins (protocol_semantics s ⨾ reserved (codes "protocol") ⨾ P) behind test
+-- a protocol's word for its semantics and what follows it begin with what passes each test that these pass
+pub semantics_begin : (s : Semantics) (test : Test) {P : Part} {following : Test} → test (a_head kind.Reserved (codes "sync")) ≡ true → test (a_head kind.Reserved (codes "async")) ≡ true → test (a_head kind.Reserved (codes "protocol")) ≡ true → Begins (protocol_semantics s ⨾ reserved (codes "protocol") ⨾ P) following test
 semantics_begin Sync test e f g = begins_first (begins_reserved e)
 semantics_begin Async test e f g = begins_both (begins_either (begins_nothing (λ h b. b)) (begins_reserved f)) (begins_first (begins_reserved g))
 
@@ -135,7 +135,7 @@ semantics_begin Async test e f g = begins_both (begins_either (begins_nothing (�
 abbrev pub built_of : List (List ℕ) → ProtocolDecl → List Management → List MessageSection → Part
 built_of scope p managing parts = attributes p.attributes ⨾ protocol_semantics p.semantics ⨾ reserved (codes "protocol") ⨾ declared scope p.full p.place ⨾ mark (codes "{") ⨾ managements managing ⨾ sections parts ⨾ mark (codes "}") ⨾ mark (codes ";")
 
--- what two protocols tell
+-- what follows from two protocols
 record Told (p q : ProtocolDecl) (ms ns : List Management) (xs ys : List MessageSection) : Type 0 where
   same_attributes : p.attributes ≡ q.attributes
   same_semantics : p.semantics ≡ q.semantics
@@ -144,8 +144,8 @@ record Told (p q : ProtocolDecl) (ms ns : List Management) (xs ys : List Message
   same_managements : ms ≡ ns
   same_messages : map unboxed_message (all_messages xs) ≡ map unboxed_message (all_messages ys)
 
--- protocols that are built of managements and sections tell all this
-built_settles : (scope : List (List ℕ)) (p q : ProtocolDecl) (ms ns : List Management) (xs ys : List MessageSection) {behind : Test} → Settles (built_of scope p ms xs) (built_of scope q ns ys) behind (Told p q ms ns xs ys)
+-- all this follows from protocols that are built of managements and sections
+built_settles : (scope : List (List ℕ)) (p q : ProtocolDecl) (ms ns : List Management) (xs ys : List MessageSection) {following : Test} → Settles (built_of scope p ms xs) (built_of scope q ns ys) following (Told p q ms ns xs ys)
 built_settles scope p q ms ns xs ys =
     told (λ e. record { same_attributes = e.0; same_semantics = e.1.0; same_full = e.1.1.1.0.0; same_place = e.1.1.1.0.1; same_managements = e.1.1.1.1.1.0; same_messages = e.1.1.1.1.1.1.0 })
     (both_settle (attributes_settle p.attributes q.attributes) (semantics_begin p.semantics past_attributes refl refl refl) (semantics_begin q.semantics past_attributes refl refl refl)
@@ -154,7 +154,7 @@ built_settles scope p q ms ns xs ys =
     (both_settle (managements_settle ms ns) (begins_both (sections_begin xs) (begins_first (begins_mark refl))) (begins_both (sections_begin ys) (begins_first (begins_mark refl)))
     (both_settle (sections_settle xs ys) (begins_first (begins_mark refl)) (begins_first (begins_mark refl)) (next_settle mark_settles mark_settles))))))))
 
--- a protocol is all that is written of it
+-- a protocol is determined by its parts
 same_protocol : (p q : ProtocolDecl) (ms ns : List Management) (xs ys : List MessageSection) → Told p q ms ns xs ys
     → p.managers ≡ flat_map managers_of ms → q.managers ≡ flat_map managers_of ns
     → p.manages ≡ flat_map managed_of ms → q.manages ≡ flat_map managed_of ns
@@ -166,9 +166,9 @@ same_protocol p q ms ns xs ys t a a' b b' c c' =
     λ i. record { full = t.same_full i; place = t.same_place i; semantics = t.same_semantics i; managers = managers i; manages = managed i; messages = held i; attributes = t.same_attributes i }
 
 -- protocols in the same namespaces are the same
-pub protocol_settles : (scope : List (List ℕ)) (p q : ProtocolDecl) {behind : Test} → Settles (protocol scope p) (protocol scope q) behind (unboxed_protocol p ≡ unboxed_protocol q)
-protocol_settles scope p q {behind} = record {
+pub protocol_settles : (scope : List (List ℕ)) (p q : ProtocolDecl) {following : Test} → Settles (protocol scope p) (protocol scope q) following (unboxed_protocol p ≡ unboxed_protocol q)
+protocol_settles scope p q {following} = record {
   settle = λ from to to' (ms, xs, a, b, c, d) (ns, ys, a', b', c', d') h h'.
-      let r = (built_settles scope p q ms ns xs ys {behind = behind}).settle from to to' d d' h h' in
+      let r = (built_settles scope p q ms ns xs ys {following = following}).settle from to to' d d' h h' in
       (same_protocol p q ms ns xs ys r.0 a a' b b' c c', r.1);
 }

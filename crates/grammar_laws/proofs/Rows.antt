@@ -8,18 +8,18 @@ use Rattle.grammar_laws.proofs.Declarations.{include_settles, using_settles, str
 use Rattle.grammar_laws.proofs.Pieces.{Piece, the_include, the_using, the_struct, the_union, the_protocol, opening, closing, Scopes, innermost, around, row, row_unit}
 use Rattle.grammar_laws.proofs.Sorts.{sort_of, not_end, same_sort}
 
--- what two rows tell: the files that they make are the same, up to where boxes lie
+-- what follows from two rows: the files that they make are the same, up to where boxes lie
 abbrev pub Same : List Piece → List Piece → Type 0
 Same one other = unboxed (row_unit one) ≡ unboxed (row_unit other)
 
--- what two rows tell where they begin with pieces of one sort, they tell in any case
+-- what follows from two rows that begin with pieces of one sort follows in any case
 given_sort : (scopes : Scopes) (one other : List Piece) {Told : Type 0} → (sort_of one ≡ sort_of other → Settles (row scopes one) (row scopes other) is_end Told) → Settles (row scopes one) (row scopes other) is_end Told
 given_sort scopes one other f = record {
   settle = λ from to to' d d' b b'.
       (f (same_sort scopes one other from to to' d d' b b')).settle from to to' d d' b b';
 }
 
--- the same row with a namespace open of another name, which is the same
+-- the same row, inside a namespace of an equal name
 renamed : (scopes : Scopes) (name other : List ℕ) (one two : List Piece) {Told : Type 0} → name ≡ other → Settles (row ((innermost scopes ++ name ∷ []) ∷ scopes) one) (row ((innermost scopes ++ name ∷ []) ∷ scopes) two) is_end Told → Settles (row ((innermost scopes ++ name ∷ []) ∷ scopes) one) (row ((innermost scopes ++ other ∷ []) ∷ scopes) two) is_end Told
 renamed scopes name other one two {Told} e s = subst (λ (x : List ℕ). Settles (row ((innermost scopes ++ name ∷ []) ∷ scopes) one) (row ((innermost scopes ++ x ∷ []) ∷ scopes) two) is_end Told) e s
 

@@ -1,4 +1,5 @@
--- The word or the mark behind a piece's attributes tells its sort, so pieces that are read from the same tokens are of one sort.
+-- The word or the mark after a piece's attributes determines its sort, so pieces that are read from the same tokens
+-- are of one sort.
 use Rattle.std.proofs.Common.{◌≡◌, ℕ, Bool, true, false, inl, inr, List, [], ◌∷◌, codes, refl, sym, ap, ◌∙◌}
 use Rattle.std.specs.Prelude.{if◌then◌else◌}
 use Rattle.std.proofs.Math.Bool.{not}
@@ -15,7 +16,7 @@ use Rattle.grammar_laws.proofs.Heads.{Head, no_head, a_head, head_of, Holds, is_
 use Rattle.grammar_laws.proofs.Names.{past_attributes, attributes_settle}
 use Rattle.grammar_laws.proofs.Pieces.{Piece, the_include, the_using, the_struct, the_union, the_protocol, opening, closing, Scopes, row}
 
--- the sort of a piece, of no piece, and of what no piece has behind its attributes
+-- the sort of a piece, of no piece, and of anything else after attributes
 pub data Sort : Type 0 where
   sort_end : Sort
   sort_include : Sort
@@ -27,11 +28,11 @@ pub data Sort : Type 0 where
   sort_closing : Sort
   sort_other : Sort
 
--- the sort that a mark tells
+-- the sort that a mark determines
 abbrev mark_sort : List ℕ → Sort
 mark_sort text = if bytes_eq text (codes "}") then sort_closing else sort_other
 
--- the sort that a reserved word tells
+-- the sort that a reserved word determines
 abbrev word_sort : List ℕ → Sort
 word_sort text =
     if bytes_eq text (codes "include") then sort_include else (
@@ -44,7 +45,7 @@ word_sort text =
     if bytes_eq text (codes "namespace") then sort_opening else (
     sort_other))))))))
 
--- the sort that is told by what stands first
+-- the sort that the first token determines
 abbrev sort_at : Head → Sort
 sort_at no_head = sort_end
 sort_at (a_head kind.Mark text) = mark_sort text
@@ -85,26 +86,26 @@ not_end (the_protocol p) e = cc
 not_end (opening name) e = cc
 not_end closing e = cc
 
--- where a mark is, it tells the sort
+-- a mark that comes first determines the sort
 mark_is : (text : List ℕ) (from to : List Token) → mark text from to → sort_at (head_of from) ≡ mark_sort text
 mark_is text from to (t, te, is) = ap (λ l. sort_at (head_of l)) te ∙ ap (λ (z : TokenKind). sort_at (a_head z t.text)) is.0 ∙ ap mark_sort is.1
 
--- so does a reserved word where it is
+-- the same of a reserved word
 word_is : (text : List ℕ) (from to : List Token) → reserved text from to → sort_at (head_of from) ≡ word_sort text
 word_is text from to (t, te, is) = ap (λ l. sort_at (head_of l)) te ∙ ap (λ (z : TokenKind). sort_at (a_head z t.text)) is.0 ∙ ap word_sort is.1
 
--- behind the last token there is no piece
+-- after the last token there is no piece
 end_is : (h : Head) → is_end h ≡ true → sort_at h ≡ sort_end
 end_is no_head e = refl
 end_is (a_head k text) e = absurd (cc)
 
--- a protocol is told by `sync`, `async` or `protocol`
+-- `sync`, `async` and `protocol` determine a protocol
 protocol_is : (s : Semantics) (from middle to : List Token) → protocol_semantics s from middle → reserved (codes "protocol") middle to → sort_at (head_of from) ≡ sort_protocol
 protocol_is Sync from middle to d e = word_is (codes "sync") from middle d
 protocol_is Async from middle to (inl same) e = ap (λ l. sort_at (head_of l)) same ∙ word_is (codes "protocol") middle to e
 protocol_is Async from middle to (inr d) e = word_is (codes "async") from middle d
 
--- attributes, and behind them what tells this sort
+-- attributes, and after them a token that determines this sort
 abbrev Led : List Attribute → Sort → List Token → Type 0
 Led list s from = (middle : List Token) × attributes list from middle × (sort_at (head_of middle) ≡ s)
 
@@ -140,7 +141,7 @@ cannot : (a b : Bool) → (a ≡ true → b ≡ true) → b ≡ false → not a 
 cannot true b f e = let t = f refl in absurd (cc)
 cannot false b f e = refl
 
--- what tells the sort of a piece is no bracket
+-- a token that determines the sort of a piece is not a bracket
 past : (h : Head) (pieces : List Piece) → sort_at h ≡ sort_of pieces → past_attributes h ≡ true
 past h pieces e = cannot (is_mark (codes "[") h) (is_other (sort_at h)) (of_mark (codes "[") (λ x. is_other (sort_at x)) refl h) (ap is_other e ∙ proper pieces)
 

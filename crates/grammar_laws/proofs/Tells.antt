@@ -1,14 +1,14 @@
--- What a part tells that is read from good tokens.
+-- What follows from a part that is read from good tokens.
 use Rattle.std.proofs.Common.{ℕ, inl, inr, List, [], ◌∷◌, ◌++◌, subst}
 use Rattle.std.specs.List.{AllByRecursion}
 use Rattle.ipdl_base.specs.declared.token.Token.{Token}
 use Rattle.ipdl_syntax.specs.Parts.{Part, nothing, ◌⨾◌, either, token, mark, reserved, provided}
 
--- Where the part is read from good tokens, it tells this, and those behind it are good.
+-- If the part is read from good tokens, this follows, and the tokens after it are good.
 pub record Tells (Good : Token → Type 0) (P : Part) (Told : Type 0) : Type 0 where
   pub tell : (from to : List Token) → P from to → AllByRecursion Good from → Told × AllByRecursion Good to
 
--- what is told tells all that follows from it
+-- what follows from a conclusion is a conclusion too
 pub tells_more : {Good : Token → Type 0} {P : Part} {Told More : Type 0} → (Told → More) → Tells Good P Told → Tells Good P More
 tells_more f p = record { tell = λ from to d g. let r = p.tell from to d g in (f r.0, r.1) }
 
@@ -32,7 +32,7 @@ mark_tells = token_tells (λ t g i. tt)
 pub reserved_tells : {Good : Token → Type 0} {text : List ℕ} → Tells Good (reserved text) (Unit {0})
 reserved_tells = token_tells (λ t g i. tt)
 
--- one part behind the other, where what the first tells is known behind it
+-- one part after the other, where the conclusion from the first is known in the second
 pub given_tell : {Good : Token → Type 0} {P Q : Part} {One Two : Type 0} → Tells Good P One → (One → Tells Good Q Two) → Tells Good (P ⨾ Q) (One × Two)
 given_tell p f = record {
   tell = λ from to (m, d, e) g.
@@ -41,7 +41,7 @@ given_tell p f = record {
       ((r.0, s.0), s.1);
 }
 
--- one part behind the other
+-- one part after the other
 pub both_tell : {Good : Token → Type 0} {P Q : Part} {One Two : Type 0} → Tells Good P One → Tells Good Q Two → Tells Good (P ⨾ Q) (One × Two)
 both_tell p q = given_tell p (λ told. q)
 
@@ -61,7 +61,7 @@ provided_tells f = record { tell = λ from to (c, d) g. (f c).tell from to d g }
 pub either_tells : {Good : Token → Type 0} {P Q : Part} {Told : Type 0} → Tells Good P Told → Tells Good Q Told → Tells Good (either P Q) Told
 either_tells p q = record { tell = λ from to x g. elim x [ inl d ↦ p.tell from to d g | inr d ↦ q.tell from to d g ] }
 
--- what holds of each element of two lists holds of each of both
+-- a property of all elements of two lists holds of all elements of both together
 pub both_all : {X : Type 0} (P : X → Type 0) (xs ys : List X) → AllByRecursion P xs → AllByRecursion P ys → AllByRecursion P (xs ++ ys)
 both_all P [] ys a b = b
 both_all P (x ∷ xs) ys a b = (a.0, both_all P xs ys a.1 b)

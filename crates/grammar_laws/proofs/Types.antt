@@ -14,7 +14,7 @@ use Rattle.grammar_laws.proofs.Heads.{Head, a_head, Test, always, opposite, is_w
 use Rattle.grammar_laws.proofs.Settling.{Settles, Begins, begins_nothing, begins_mark, begins_reserved, begins_both, begins_first, begins_any, begins_more, begins_at, begins_provided, told, nothing_settles, mark_settles, reserved_settles, both_settle, next_settle, apart, apart_too, none_some, some_none, at_settles, provided_settles}
 use Rattle.grammar_laws.proofs.Names.{past_name, named_settles, named_begins}
 
--- what stands behind a type
+-- what follows a type
 abbrev pub past_type : Test
 past_type h = past_name h && not (is_mark (codes "[") h || is_mark (codes "?") h)
 
@@ -35,7 +35,7 @@ of_type : (test : Test) → ((text : List ℕ) → test (a_head kind.Word text) 
 of_type test e f g h b = either_true (is_reserved (codes "nullable") h) (base_start h) (test h ≡ true) b (of_reserved (codes "nullable") test g h) (of_base test e f h)
 
 -- two suffixes are the same
-suffix_settles : (s r : Suffix) {behind : Test} → Settles (suffix s) (suffix r) behind (s ≡ r)
+suffix_settles : (s r : Suffix) {following : Test} → Settles (suffix s) (suffix r) following (s ≡ r)
 suffix_settles Array Array = told (λ e. refl) (next_settle mark_settles mark_settles)
 suffix_settles Array Maybe = apart (is_mark (codes "[")) (begins_first (begins_mark refl)) (begins_mark refl)
 suffix_settles Maybe Array = apart_too (is_mark (codes "[")) (begins_mark refl) (begins_first (begins_mark refl))
@@ -53,7 +53,7 @@ suffixes_settle [] (y ∷ ys) = none_some (begins_first (suffix_begins y (opposi
 suffixes_settle (x ∷ xs) [] = some_none (begins_first (suffix_begins x (opposite past_type) refl refl))
 suffixes_settle (x ∷ xs) (y ∷ ys) = told (λ e. cc) (next_settle (suffix_settles x y) (suffixes_settle xs ys))
 
--- suffixes, or what is behind, end the base before
+-- suffixes, or what follows, end the base before
 suffixes_begin : (xs : List Suffix) → Begins (suffixes xs) past_type past_name
 suffixes_begin [] = begins_nothing (λ h b. (both_true (past_name h) _ b).0)
 suffixes_begin (x ∷ xs) = begins_first (suffix_begins x past_name refl refl)
@@ -62,18 +62,18 @@ suffixes_begin (x ∷ xs) = begins_first (suffix_begins x past_name refl refl)
 not_nullable : (h : Head) → base_start h ≡ true → not (is_reserved (codes "nullable") h) ≡ true
 not_nullable h b = of_base (opposite (is_reserved (codes "nullable"))) (λ text. refl) refl h b
 
--- types are both nullable, or neither is
+-- both types are nullable, or neither is
 nullable_settles : (n m : Bool) → Settles (nullable_word n) (nullable_word m) base_start (n ≡ m)
 nullable_settles true true = told (λ e. refl) reserved_settles
 nullable_settles true false = apart (is_reserved (codes "nullable")) (begins_reserved refl) (begins_nothing not_nullable)
 nullable_settles false true = apart_too (is_reserved (codes "nullable")) (begins_nothing not_nullable) (begins_reserved refl)
 nullable_settles false false = nothing_settles refl
 
--- what two types round their bases tell, where the bases tell this
+-- what follows from two types around their bases, if this follows from the bases
 abbrev RoundTold : Type 0 → Bool → Bool → List Suffix → List Suffix → Place → Place → Type 0
 RoundTold Told n m xs ys p q = (n ≡ m) × ((p ≡ q) × Told) × (xs ≡ ys)
 
--- what is round the bases is the same
+-- the parts around the bases are the same
 round_settles : {P Q : Part} {Told : Type 0} (n m : Bool) (xs ys : List Suffix) (p q : Place) → Begins P always base_start → Begins Q always base_start → Settles P Q past_name Told → Settles (type_round n P xs p) (type_round m Q ys q) past_type (RoundTold Told n m xs ys p q)
 round_settles n m xs ys p q b c s =
     provided_settles (λ le le'. told (λ e. (e.0, e.1.0, e.1.1))
@@ -97,7 +97,7 @@ base_settles room (Unique' box nullable b after place) (Unique' box' nullable' c
     provided_settles (λ p p'. told (λ e. cc) (next_settle reserved_settles (next_settle mark_settles
     (both_settle (round_settles nullable nullable' after after' place place' (base_begins (room - 1) b) (base_begins (room - 1) c) (base_settles (room - 1) b c)) (begins_mark refl) (begins_mark refl) mark_settles))))
 
--- a type is its base and what is round it
+-- a type is its base and the parts around it
 same_type : (s r : TypeSpec) → RoundTold (unboxed_base s.base ≡ unboxed_base r.base) s.nullable r.nullable s.suffixes r.suffixes s.place r.place → unboxed_type s ≡ unboxed_type r
 same_type s r e = λ i. record { nullable = e.0 i; base = e.1.1 i; suffixes = e.2 i; place = e.1.0 i }
 
@@ -109,8 +109,8 @@ type_settles s r = told (same_type s r) (round_settles s.nullable r.nullable s.s
 type_of_base : (h : Head) → base_start h ≡ true → type_start h ≡ true
 type_of_base h e = of_base type_start (λ text. refl) refl h e
 
--- perhaps `nullable`, and behind it what begins as a base
-nullable_begins : (n : Bool) {P : Part} {behind : Test} → Begins P behind base_start → Begins (nullable_word n ⨾ P) behind type_start
+-- perhaps `nullable`, and after it what begins as a base
+nullable_begins : (n : Bool) {P : Part} {following : Test} → Begins P following base_start → Begins (nullable_word n ⨾ P) following type_start
 nullable_begins true p = begins_first (begins_reserved refl)
 nullable_begins false p = begins_both (begins_nothing type_of_base) p
 

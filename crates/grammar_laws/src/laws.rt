@@ -1,12 +1,14 @@
+//! The laws of the grammar of files.
+
 ghost use Rattle.grammar_laws.specs.Laws.{HasOneTree, LimitsHold, FilesHold, NamesHold, PlacesHold};
 
-/// The law of the tree: some tokens have at most one for each kind of file, up to where its boxes lie.
+/// The law of the tree: tokens have at most one tree for each kind of file, up to where its boxes lie.
 pub fn one_tree()
     ensures { HasOneTree }
 {}
 
-/// The law of the limits: a type that the grammar takes has at most four suffixes, and at most four
-/// `UniquePtr` inside one another, each round a type with at most four suffixes.
+/// The law of limits: a type that the grammar takes has at most four suffixes, and at most four
+/// nested `UniquePtr`, each around a type with at most four suffixes.
 pub fn limits_hold()
     ensures { LimitsHold }
 {}
@@ -16,13 +18,13 @@ pub fn files_hold()
     ensures { FilesHold }
 {}
 
-/// The law of the names: where the text of each word among some tokens is a word, the names in a
-/// tree of theirs are words, or words joined by colons.
+/// The law of names: if the text of each word among some tokens is a word, then the names in their
+/// tree are words, or words joined by colons.
 pub fn names_hold()
     ensures { NamesHold }
 {}
 
-/// The law of the places: where some tokens stand in one file, so do all places in a tree of theirs.
+/// The law of places: if tokens are in one file, then so are all places in their tree.
 pub fn places_hold()
     ensures { PlacesHold }
 {}

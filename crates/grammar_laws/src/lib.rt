@@ -1,4 +1,5 @@
-//! What follows from the grammar of files, for all tokens: the laws of `ipdl_syntax`'s definitions.
+//! What follows from the grammar of files, for all tokens: the laws of the definitions of
+//! `ipdl_syntax`.
 #![tactic(auto)]
 
 mod laws;

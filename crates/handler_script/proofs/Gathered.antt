@@ -7,7 +7,7 @@ use Rattle.ipdl_base.specs.declared.finding.Rule.{Rule}
 use Rattle.findings.specs.Gains.{Gains}
 use Rattle.findings.proofs.Gathers.{Gains-like, Gains-then}
 
--- a test says that a rule is broken
+-- a test shows that a rule is broken
 pub gains_if : (rule : Rule) (place : Place) (b : Bool) (P : Type 0) (old new : List Finding) → Gains (λ f. (place ≡ f.place) × ((f.rule ≡ rule) × IsTrue b)) old new → IsTrue b ↔ P → Gains (λ f. (place ≡ f.place) × ((f.rule ≡ rule) × P)) old new
 gains_if rule place b P old new gains iff =
     Gains-like (λ f. (place ≡ f.place) × ((f.rule ≡ rule) × IsTrue b)) (λ f. (place ≡ f.place) × ((f.rule ≡ rule) × P)) old new gains
@@ -21,21 +21,21 @@ gains_or place A B a b c one two =
     (λ f h. elim h [ inl x ↦ (x.0, inl x.1) | inr x ↦ (x.0, inr x.1) ])
     (λ f h. elim h.1 [ inl x ↦ inl (h.0, x) | inr x ↦ inr (h.0, x) ])
 
--- where a message is not there that alone is found
+-- if a message does not exist, only that is found
 pub gains_absent : (place : Place) (A K : Finding → Type 0) (N : Type 0) (a b : List Finding) → Gains (λ f. (place ≡ f.place) × (A f × N)) a b → N → Gains (λ f. (place ≡ f.place) × ((A f × N) ⊎ ((¬ N) × K f))) a b
 gains_absent place A K N a b gains is =
     Gains-like (λ f. (place ≡ f.place) × (A f × N)) (λ f. (place ≡ f.place) × ((A f × N) ⊎ ((¬ N) × K f))) a b gains
     (λ f h. (h.0, inl h.1))
     (λ f h. elim h.1 [ inl x ↦ (h.0, x) | inr x ↦ absurd (x.0 is) ])
 
--- and where it is there the others are
+-- and if it exists, the others are found
 pub gains_known : (place : Place) (A K : Finding → Type 0) (N : Type 0) (a b : List Finding) → Gains (λ f. (place ≡ f.place) × K f) a b → ¬ N → Gains (λ f. (place ≡ f.place) × ((A f × N) ⊎ ((¬ N) × K f))) a b
 gains_known place A K N a b gains none =
     Gains-like (λ f. (place ≡ f.place) × K f) (λ f. (place ≡ f.place) × ((A f × N) ⊎ ((¬ N) × K f))) a b gains
     (λ f h. (h.0, inr (none, h.1)))
     (λ f h. elim h.1 [ inl x ↦ absurd (none x.1) | inr x ↦ (h.0, x.1) ])
 
--- a finding for certain
+-- a finding that is always there
 pub gains_plain : (rule : Rule) (place : Place) (old new : List Finding) → Gains (λ f. (place ≡ f.place) × ((f.rule ≡ rule) × IsTrue true)) old new → Gains (λ f. (place ≡ f.place) × (f.rule ≡ rule)) old new
 gains_plain rule place old new gains =
     Gains-like (λ f. (place ≡ f.place) × ((f.rule ≡ rule) × IsTrue true)) (λ f. (place ≡ f.place) × (f.rule ≡ rule)) old new gains (λ f h. (h.0, h.1.0)) (λ f h. (h.0, (h.1, refl)))

@@ -26,13 +26,13 @@ use Rattle.script_reader.specs.declared.written.WrittenValue.{WrittenValue, Unio
 use Rattle.script_reader.specs.declared.written.WrittenValue.TheVariants as written
 use Rattle.script_reader.specs.declared.written.WrittenValues.{WrittenValues, First'}
 use Rattle.script_reader.specs.declared.written.WrittenValues.TheVariants as values
-use Rattle.script_reader.specs.Grammar.{is_no_name, named, name_of, name, who_named, who_of, who, message, atom_named, atom_of, value, listed, more, arguments, call, behind_keyword}
+use Rattle.script_reader.specs.Grammar.{is_no_name, named, name_of, name, who_named, who_of, who, message, atom_named, atom_of, value, listed, more, arguments, call, following_keyword}
 use Rattle.script_reader.specs.Lines.{IsStatement}
 use Rattle.script_reader.specs.Parts.{word}
-use Rattle.script_reader.specs.Tokens.{class_of, IsTokenOf, IsToken, AreTokens, behind, is_blank, is_digit, hex_value, hex_byte, hex_at, InSequence}
+use Rattle.script_reader.specs.Tokens.{class_of, IsTokenOf, IsToken, AreTokens, following, is_blank, is_digit, hex_value, hex_byte, hex_at, InSequence}
 use Rattle.handler_script.specs.Valid.{IsName}
 
--- one who is spoken of by a name
+-- an actor that is referred to by name
 abbrev pub IsNamed : Who → Type 0
 IsNamed (whos.Name n) = IsName n
 IsNamed _ = Unit {0}
@@ -48,7 +48,7 @@ AtomNames (atom.Text text) = IsUtf8 text
 AtomNames (atom.Bytes bytes) = AreBytes bytes
 AtomNames _ = Unit {0}
 
--- all whom values speak of by names
+-- all actors that values refer to by name
 abbrev mutual
   pub ValueNames : WrittenValue → Type 0
   ValueNames (written.Atom a) = AtomNames a
@@ -84,7 +84,7 @@ abbrev pub AreWords : List ScriptToken → Type 0
 AreWords [] = Unit {0}
 AreWords (t ∷ ts) = IsWordToken t × AreWords ts
 
--- what is read of one token, and of parts behind one another
+-- what is read from one token, and from parts that follow each other
 
 tail_words : (t : ScriptToken) (from to : List ScriptToken) → from ≡ t ∷ to → AreWords from → AreWords to
 tail_words t from to e ws = (subst AreWords e ws).1
@@ -201,24 +201,24 @@ message_words m from to h ws = tail_words _ h.2.0 to h.2.2 (tail_words _ h.0 h.2
 call_names : (c : WrittenMessage) (from to : List ScriptToken) → call c from to → AreWords from → ValuesNames c.values × AreWords to
 call_names c from to h ws = arguments_names c.values h.0 to h.2 (message_words c.message from h.0 h.1 ws)
 
-behind_names : (s : Statement) (from to : List ScriptToken) → behind_keyword s from to → AreWords from → Names s
-behind_names (forms.Main s) from to h ws = tt
-behind_names (forms.On s m) from to h ws = tt
-behind_names forms.End from to h ws = tt
-behind_names (forms.Send w c) from to h ws = let one = who_names w from h.0 h.1 ws in (one.0, (call_names c h.0 to h.2 one.1).0)
-behind_names (forms.New n w c) from to h ws =
+after_names : (s : Statement) (from to : List ScriptToken) → following_keyword s from to → AreWords from → Names s
+after_names (forms.Main s) from to h ws = tt
+after_names (forms.On s m) from to h ws = tt
+after_names forms.End from to h ws = tt
+after_names (forms.Send w c) from to h ws = let one = who_names w from h.0 h.1 ws in (one.0, (call_names c h.0 to h.2 one.1).0)
+after_names (forms.New n w c) from to h ws =
     let one = name_names n from h.0 h.1 ws in
     let two = who_names w h.0 h.2.0 h.2.1 one.1 in
     (one.0, two.0, (call_names c h.2.0 to h.2.2 two.1).0)
-behind_names (forms.Let n w) from to h ws = let one = name_names n from h.0 h.1 ws in (one.0, (who_names w h.0 to h.2 one.1).0)
-behind_names (forms.Resolve vs) from to h ws = (arguments_names vs from to h ws).0
-behind_names forms.Reject from to h ws = tt
-behind_names (forms.Keep n) from to h ws = (name_names n from to h ws).0
-behind_names (forms.ResolveKept n c) from to h ws = let one = name_names n from h.0 h.1 ws in (one.0, (call_names c h.0 to h.2 one.1).0)
-behind_names (forms.RejectKept n m) from to h ws = (name_names n from h.0 h.1 ws).0
-behind_names forms.Close from to h ws = tt
-behind_names forms.Die from to h ws = tt
-behind_names (forms.Return vs) from to h ws = (arguments_names vs from to h ws).0
+after_names (forms.Let n w) from to h ws = let one = name_names n from h.0 h.1 ws in (one.0, (who_names w h.0 to h.2 one.1).0)
+after_names (forms.Resolve vs) from to h ws = (arguments_names vs from to h ws).0
+after_names forms.Reject from to h ws = tt
+after_names (forms.Keep n) from to h ws = (name_names n from to h ws).0
+after_names (forms.ResolveKept n c) from to h ws = let one = name_names n from h.0 h.1 ws in (one.0, (call_names c h.0 to h.2 one.1).0)
+after_names (forms.RejectKept n m) from to h ws = (name_names n from h.0 h.1 ws).0
+after_names forms.Close from to h ws = tt
+after_names forms.Die from to h ws = tt
+after_names (forms.Return vs) from to h ws = (arguments_names vs from to h ws).0
 
 -- the words among tokens are words
 
@@ -229,7 +229,7 @@ words_while (b ∷ bs) = elim (cases_Bool (is_word_byte b)) [
   | inr f ↦ rw (take_while-cons is_word_byte b bs, f) refl
 ]
 
--- a word at the front of bytes
+-- a word at the start of bytes
 front_word : (b : ℕ) (bs : List ℕ) → is_word_start b ≡ true → IsWord (take_while is_word_byte (b ∷ bs))
 front_word b bs t =
     let byte : is_word_byte b ≡ true = or_left (is_word_start b) _ t in
@@ -332,10 +332,10 @@ token_word (token.Mark k) from to h = tt
 
 tokens_words : (ts : List ScriptToken) (line : List ℕ) → AreTokens ts line → AreWords ts
 tokens_words [] line h = tt
-tokens_words (t ∷ ts) line h = (token_word t (behind is_blank line) h.0 h.1, tokens_words ts h.0 h.2)
+tokens_words (t ∷ ts) line h = (token_word t (following is_blank line) h.0 h.1, tokens_words ts h.0 h.2)
 
--- the names in a statement that a line is
+-- the names in the statement of a line
 pub statement_names : (line : List ℕ) (s : Statement) → IsStatement line s → Names s
 statement_names line s h =
     let ws = tokens_words h.0 line h.1 in
-    behind_names s h.2.0 [] h.2.2 (tail_words h.2.1.0 h.0 h.2.0 h.2.1.1 ws)
+    after_names s h.2.0 [] h.2.2 (tail_words h.2.1.0 h.0 h.2.0 h.2.1.1 ws)

@@ -95,7 +95,7 @@ same_shape (Endpoint p m) (Endpoint q n) h =
     ap (λ z. Endpoint z m) (same_nat p q (λ n. h (λ e. n (let i : p ≡ q = cc in i)))) ∙ ap (λ z. Endpoint q z) (same_bool m n (λ d. h (λ e. d (let i : m ≡ n = cc in i))))
 same_shape a b h = absurd (h (λ e. let no : ⊥ = cc in no))
 
--- what does not fail to stand for a type does
+-- a type that does not fail to fit another one fits it
 pub stands : (one other : Shape) → ¬ ¬ StandsFor one other → StandsFor one other
 stands (Actor p nullable) (Actor q true) h = same_nat p q h
 stands one other h = same_shape one other h

@@ -1,4 +1,4 @@
--- In which block a statement stands.
+-- In which block a statement is.
 use Rattle.std.proofs.Common.{◌≡◌, true, false, List, [], ◌∷◌, ◌++◌, fold, Option, Some, None, ◌⊎◌, inl, inr, refl, sym, ap, ◌∙◌, subst, append-nil, append_assoc}
 use Rattle.std.specs.Prelude.{IsSomeAnd}
 use Rattle.std.specs.List.{list_any}
@@ -13,7 +13,7 @@ use Rattle.handler_script.specs.Knowing.{place_after, place_of}
 abbrev Place : Type 0
 Place = Statement × List Statement
 
--- behind one more statement
+-- after one more statement
 pub place_more : (before : List Statement) (s : Statement) → place_of (before ++ s ∷ []) ≡ place_after (place_of before) s
 place_more before s = fold-append place_after None before (s ∷ [])
 
@@ -35,14 +35,14 @@ places first above (x ∷ more) e =
     ap (λ (p : Option Place). fold place_after p more) (place_kept (Some (first, above)) x both.0)
     ∙ (places first (above ++ x ∷ []) more both.1 ∙ ap (λ (ys : List Statement). Some (first, ys)) (append_assoc above (x ∷ []) more))
 
--- what stands in a block has its place there
+-- what is in a block has its place there
 pub has_place : (before : List Statement) (first : Statement) (above : List Statement) → StandsIn before first above → place_of before ≡ Some (first, above)
 has_place before first above h =
     ap place_of h.split
     ∙ (fold-append place_after None h.outer (first ∷ above)
     ∙ (ap (λ (p : Option Place). fold place_after p above) (place_opened (place_of h.outer) first h.opened) ∙ places first [] above h.unclosed))
 
--- and the other way round: a place behind statements is a block that one of them opened, or it was one before them, and none of them closes it
+-- and the converse: a place after statements is a block that one of them opened, or one that was open before them, and none of them closes it
 abbrev WasThere : Option Place → List Statement → Statement → List Statement → Type 0
 WasThere place more first above = (earlier : List Statement) × (place ≡ Some (first, earlier)) × (above ≡ earlier ++ more) × (list_any closes more ≡ false)
 
@@ -76,13 +76,13 @@ came place (x ∷ more) first above e = elim (came (place_after place x) more fi
 pub stands : (before : List Statement) (first : Statement) (above : List Statement) → place_of before ≡ Some (first, above) → StandsIn before first above
 stands before first above e = elim (came None before first above e) [ inl h ↦ h | inr h ↦ absurd (let no : ⊥ = cc (h.1) in no) ]
 
--- so what holds of the block holds of the place, ..
+-- so what is true of the block is true of the place, ..
 pub at_place : (before : List Statement) (Holds : Statement → List Statement → Type 0) → IsInBlock before Holds → IsSomeAnd (place_of before) (λ p. Holds p.0 p.1)
 at_place before Holds h =
     let P : Option Place → Type 0 = λ o. IsSomeAnd o (λ p. Holds p.0 p.1) in
     subst P (sym (has_place before h.0 h.1 h.2)) h.3
 
--- .. and the other way round
+-- .. and the converse
 pub in_block : (before : List Statement) (Holds : Statement → List Statement → Type 0) → IsSomeAnd (place_of before) (λ p. Holds p.0 p.1) → IsInBlock before Holds
 in_block before Holds h = by (place_of before) refl h
   where

@@ -1,4 +1,4 @@
--- What one more name makes of a table.
+-- How one more name changes a table.
 use Rattle.std.proofs.Common.{◌≡◌, ◌∙◌, Bool, true, false, cond, List, ◌∷◌, ℕ, Option, Some, sym, ap}
 use Rattle.std.specs.Prelude.{if◌then◌else◌, find}
 use Rattle.std.specs.Borrow.{Bor}
@@ -6,7 +6,7 @@ use Rattle.std.specs.Str.{bytes_eq}
 use Rattle.indexmap.specs.IndexMap.{IndexMap, get_by}
 use Rattle.handler_script.specs.Tables.{at_name}
 
--- where what a table has at a name is what is found in a list, it is so with one more in front of the list
+-- if what a table has at a name is what is found in a list, this still holds with one more element before the list
 pub found_more : {V S X Y : Type 0} (of_table : Option V → Y) (of_list : Option X → Y) (name_of : X → List ℕ) (old new : IndexMap (Bor (List ℕ)) V S) (key : Bor (List ℕ)) (v : V) (x : X) (xs rest : List X) (name : List ℕ)
     → xs ≡ x ∷ rest → key.now ≡ name_of x → of_table (Some v) ≡ of_list (Some x)
     → ((q : Bor (List ℕ)) → get_by (λ k. bytes_eq q.now k.now) new ≡ cond (bytes_eq key.now q.now) (Some v) (get_by (λ k. bytes_eq q.now k.now) old))

@@ -1,4 +1,4 @@
--- What fits a type stands for a term that does.
+-- What fits a type has a term that fits it.
 use Rattle.std.proofs.Common.{◌≡◌, ℕ, ◌*◌, ◌<◌, ◌^◌, Bool, true, false, List, [], ◌∷◌, length, Option, Some, None, ℤ, pos, ◌≤ℤ◌, ◌⊎◌, inl, inr, refl, sym, subst, arith}
 use Rattle.std.specs.Prelude.{IsTrue, IsSome, IsSomeAnd, unwrap_or, option_and_then, if◌then◌else◌}
 use Rattle.std.proofs.lemmas.Bool.{true≢false, or_parts, not-false, eq-eqb}
@@ -28,7 +28,7 @@ use Rattle.handler_script.specs.Valid.{MayName, TermFits, AllTermsFit, EachTermF
 use Rattle.handler_script.proofs.SameTypes.{same_nat, stands}
 use Rattle.handler_script.proofs.Names.{AreBytes, IsNamed, AtomNames, ValueNames, ValuesNames}
 
--- One who is known in a block may be spoken of there.
+-- An actor that is known in a block may be named there.
 pub may_name : (b : BlockContext) (w : Who) → is_unknown b w ≡ false → IsNamed w → ((n : ℕ) → whos.Param n ≡ w → MayName b w) → MayName b w
 may_name b whos.Top k n p = tt
 may_name (in_main side) whos.This k n p = absurd (true≢false k)
@@ -38,7 +38,7 @@ may_name (in_handler side message) whos.Made k n p = not-false (is_constructor m
 may_name b (whos.Param i) k n p = p i refl
 may_name b (whos.Name name) k n p = n
 
--- What is not false of things that can be told apart is so
+-- What is not false of things that can be distinguished is true
 
 not_both : {A B : Type 0} → ¬ ¬ (A × B) → (¬ ¬ A) × (¬ ¬ B)
 not_both h = (λ n. h (λ p. n p.0), λ n. h (λ p. n p.1))
@@ -55,7 +55,7 @@ is_true false h = absurd (h (λ e. true≢false (sym e)))
 is_below : (a b : ℤ) → ¬ ¬ (a ≤ℤ b) → a ≤ℤ b
 is_below a b h = by_lt_z b a (λ lt. absurd (h (λ le. let no : ⊥ = omega (arith, ints) in no))) (λ le. le)
 
--- one who fits as a value stands for a term
+-- an actor that fits as a value has a term
 who_fits : (schema : Schema) (b : BlockContext) (shape : Shape) (w : Who) → ¬ ¬ WhoFits (given_in b) shape w → is_unknown b w ≡ false → IsNamed w → TermFits schema b shape (who_term w)
 who_fits schema b shape whos.Top h k n = (is_true (is_actor shape) h, refl, tt)
 who_fits schema b shape whos.This h k n = (is_true (is_actor shape) h, refl, may_name b whos.This k n (λ i e. let no : ⊥ = cc in absurd no))
@@ -159,7 +159,7 @@ mutual
         all_values_fit schema b shape vs both.1 (or_parts (mentions (is_unknown b) v) (any_mentions (is_unknown b) vs) k).1 n.1,
       )
 
-  -- values that do not fail to fit stand for terms that fit
+  -- values that do not fail to fit have terms that fit
   pub each_value_fits : (schema : Schema) (b : BlockContext) (fields : List ParamRow) (vs : WrittenValues) → ¬ ¬ EachFits schema (given_in b) fields vs → any_mentions (is_unknown b) vs ≡ false → ValuesNames vs → EachTermFits schema b fields (terms_of schema fields vs)
   each_value_fits schema b [] values.Nothing h k n = tt
   each_value_fits schema b (field ∷ fields) values.Nothing h k n = absurd (h (λ no. no))

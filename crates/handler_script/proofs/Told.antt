@@ -1,4 +1,4 @@
--- What is known of the block that is open tells what a statement in it breaks.
+-- What is known of the open block decides what a statement in it breaks.
 use Rattle.std.proofs.Common.{◌≡◌, Bool, List, Option, Some, None, refl, sym, ap, ◌∙◌, subst}
 use Rattle.std.specs.Prelude.{◌↔◌, IsTrue, IsSomeAnd, is_some}
 use Rattle.std.specs.List.{list_any}
@@ -21,7 +21,7 @@ mapped_back : {X Y : Type 0} (f : X → Y) (P : Y → Type 0) (o : Option X) →
 mapped_back f P None = ((λ h. h), (λ h. h))
 mapped_back f P (Some x) = ((λ h. h), (λ h. h))
 
--- the rule is broken as the block tells
+-- the rule is broken, by what is known of the block
 abbrev ToldBreaks : Schema → Rule → Statement → List Statement → Told → Type 0
 ToldBreaks schema r s after told = IsSomeAnd told.0 (λ b. BlockBreaks schema r (named schema s) told.1 b s after)
 
@@ -33,7 +33,7 @@ told_inside schema r before s after block knows =
       (λ h. subst P (sym knows) ((mapped_back (told_by schema) (ToldBreaks schema r s after) (place_of before)).1 (at_place before Holds h))),
     )
 
--- where a block is open, and where none is
+-- if a block is open, and if no block is
 
 pub breaks_inside : (schema : Schema) (r : Rule) (before : List Statement) (s : Statement) (after : List Statement) (block : Option OpenBlock) (open_block : OpenBlock) → block ≡ Some open_block
     → KnowsBlock schema before block → IsSomeAnd (option_map standing_in open_block.context) (λ b. BlockBreaks schema r (named schema s) open_block.answered b s after) ↔ InsideBreaks schema r before s after
@@ -55,7 +55,7 @@ some_unit : {X : Type 0} (o : Option X) → IsTrue (is_some o) ↔ IsSomeAnd o (
 some_unit None = ((λ h. let no : ⊥ = cc in absurd no), (λ h. absurd h))
 some_unit (Some x) = ((λ h. tt), (λ h. refl))
 
--- it stands in a block where one is open
+-- it is in a block if one is open
 pub open_inside : (schema : Schema) (before : List Statement) (block : Option OpenBlock) → KnowsBlock schema before block → IsTrue (is_some block) ↔ IsInside before
 open_inside schema before block knows =
     let same : is_some block ≡ is_some (place_of before) = sym (some_told told_of block) ∙ (ap (λ (o : Option Told). is_some o) knows ∙ some_told (told_by schema) (place_of before)) in (

@@ -1,4 +1,4 @@
--- What a statement does that breaks no rule can be done.
+-- The action of a statement that breaks no rule can be done.
 use Rattle.std.proofs.Common.{◌≡◌, ℕ, suc, ◌+◌, ◌*◌, ◌/◌, ◌%◌, ◌<◌, ◌≤◌, Bool, true, false, not, ◌||◌, List, [], ◌∷◌, length, Option, Some, None, ◌⊎◌, inl, inr, refl, sym, ap, subst, arith}
 use Rattle.std.specs.Prelude.{IsTrue, IfSome, IsSome, IsNone, IsSomeAnd, unwrap_or, option_and_then, slice_get}
 use Rattle.std.specs.List.{find}
@@ -23,7 +23,8 @@ use Rattle.script_reader.specs.declared.written.WrittenValues.{WrittenValues}
 use Rattle.handler_script.specs.Blocks.{answers, BlockContext, side_of, given_in, handled_in}
 use Rattle.handler_script.specs.Broken.{NamesNone, sent, IsMissent, IsUnsent, is_no_actor, types_of, AreUnfit, ValuesBreak, is_unknown, IsMisplaced}
 use Rattle.handler_script.specs.Mentions.{any_mentions, speaks_of}
-use Rattle.handler_script.specs.Messages.{message_in, protocol_named, message_named, named, sends, resolves, replies, is_constructor}
+use Rattle.ipdl_base.specs.Sides.{sends}
+use Rattle.handler_script.specs.Messages.{message_in, protocol_named, message_named, named, resolves, replies, is_constructor}
 use Rattle.handler_script.specs.ScriptOf.{number_of, typed, action_of, reply_of}
 use Rattle.handler_script.specs.Terms.{param_at, is_actor, EachFits, terms_of}
 use Rattle.handler_script.specs.Valid.{MayName, IsSendable, IsValidAction, EachTermFits, answers_handled}
@@ -50,7 +51,7 @@ in_protocol : (name : MessageName) (o : Option ProtocolRow) (m : MessageRow) →
 in_protocol name None m e = absurd (let no : ⊥ = cc in no)
 in_protocol name (Some row) m e = (row, refl, e)
 
--- in a sound schema the message of a name is the one of its number
+-- in a sound schema the message with a name is the one with its number
 pub message_numbered : (schema : Schema) → IsSound schema → (name : MessageName) (m : MessageRow) → message_named schema name ≡ Some m → message_of schema m.number ≡ Some m
 message_numbered schema sound name m e =
     let there = in_protocol name (protocol_named schema name.protocol) m e in
@@ -99,7 +100,7 @@ sendable schema sound b name vs m e sent carried fits quiet names =
     in
     subst P (sym e) ((refl, sent, carried, each_value_fits schema b m.params vs fits quiet names), found)
 
--- whom a statement names, where it is not broken
+-- the actor that a statement names, if it breaks no rule
 who_valid : (b : BlockContext) (w : Who) → ¬ IsTrue (is_no_actor (given_in b) w) → is_unknown b w ≡ false → IsNamed w → MayName b w
 who_valid b w actor quiet named = may_name b w quiet named (param_named b w actor)
 
@@ -126,7 +127,7 @@ is_there : {X : Type 0} (o : Option X) → ¬ IsNone o → IsSome o
 is_there None h = absurd (h refl)
 is_there (Some x) h = refl
 
--- values that answer, where there are types for them
+-- values that answer, if there are types for them
 answer_valid : (schema : Schema) (b : BlockContext) (o : Option (List ParamRow)) (vs : WrittenValues) → ¬ IsNone o → ¬ AreUnfit schema (given_in b) o vs → any_mentions (is_unknown b) vs ≡ false → ValuesNames vs
     → IsSomeAnd o (λ returns. EachTermFits schema b returns (terms_of schema (unwrap_or o []) vs))
 answer_valid schema b None vs there values quiet names = absurd (there refl)
@@ -141,7 +142,7 @@ kept_valid schema sound name m e placed =
     let both = subst P (sym e) (refl, found) in
     (both.0, both.1, λ none. placed (some_in (λ row. IsNone (resolves row)) (message_named schema name) m e none))
 
--- only one is spoken of
+-- only one actor is named
 who_quiet : (b : Bool) → (b || false) ≡ false → b ≡ false
 who_quiet b h = (or_parts b false h).0
 

@@ -46,7 +46,7 @@ use Rattle.value_types.specs.Shapes.{element_of, held_by, fields_of, component_o
 use Rattle.handler_script.proofs.TermFit.{is_true}
 use Rattle.handler_script.proofs.ValidActions.{IsUnbroken, some_in, message_numbered, action_valid, reply_valid, answers_alike, answers_once}
 
--- Lines that break no rule, behind others
+-- Lines that break no rule, after others
 
 abbrev pub AreKept : Schema → List LineReading → List LineReading → Type 0
 AreKept schema before [] = Unit {0}
@@ -127,7 +127,7 @@ counted (a ∷ actions) = cond (answers_handled a) (1 + counted actions) (counte
 abbrev IsReply : Schema → BlockContext → Terms → Type 0
 IsReply schema b values = IsSomeAnd (option_and_then replies (handled_in b)) (λ returns. EachTermFits schema b returns values)
 
--- the actions and the reply of statements can be done and given, and at most one of them answers, none where a line did
+-- the actions and the reply of statements can be done and given, and at most one of them answers, and none if a line already did
 record AreValid (schema : Schema) (b : BlockContext) (answered : Bool) (ss : List Statement) : Type 0 where
   pub actions : AllByRecursion (IsValidAction schema b) (filter_map (action_of schema b) ss)
   pub once : counted (filter_map (action_of schema b) ss) ≤ cond answered 0 1

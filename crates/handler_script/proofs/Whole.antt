@@ -1,4 +1,4 @@
--- What is read of a text, and where no rule is broken.
+-- What is read from a text, and what follows if no rule is broken.
 use Rattle.std.proofs.Common.{◌≡◌, ℕ, ◌+◌, ◌≤◌, List, [], ◌∷◌, length, map, refl, ap, arith}
 use Rattle.std.proofs.lemmas.List.Splits.{length-slice_split}
 use Rattle.std.proofs.lemmas.List.Sums.{count_by-le-length}
@@ -16,13 +16,13 @@ as_many [] (x ∷ rest) h = absurd h
 as_many (l ∷ lines) [] h = absurd h
 as_many (l ∷ lines) (x ∷ rest) h = let same = as_many lines rest h.1 in omega (arith, same)
 
--- a text has no more lines than it has bytes, but for one
+-- a text has at most one line more than it has bytes
 pub few_lines : (text : List ℕ) (readings : List LineReading) → IsReading text readings → length readings ≤ length text + 1
 few_lines text readings h =
     let same = as_many (lines_of text) readings h in
     omega (arith, same, length-slice_split is_line_feed text, count_by-le-length is_line_feed text)
 
--- where a report is empty nothing is broken
+-- if a report is empty, nothing is broken
 pub none_broken : {Broken : Finding → Type 0} (found : List Finding) → report.IsReport Broken found → length found ≡ 0 → (f : Finding) → ¬ Broken f
 none_broken found is empty f broken =
     let has = (is.exact f).1 broken in

@@ -1,4 +1,4 @@
--- The block that a context is.
+-- The block that a context represents.
 use Rattle.handler_script.specs.declared.context.Context.{Context}
 use Rattle.handler_script.specs.declared.context.Context.TheVariants as context
 use Rattle.handler_script.specs.Blocks.{BlockContext, in_main, in_handler}

@@ -1,4 +1,4 @@
--- Whom a statement and its values speak of.
+-- What actors and parameters a statement and its values refer to.
 use Rattle.std.specs.Prelude.{Bool, false, ◌||◌, Option, Some, None}
 use Rattle.std.specs.Option.{option_map_or}
 use Rattle.script_reader.specs.declared.statement.Statement.{Statement}
@@ -16,7 +16,7 @@ abbrev pub atom_mentions : (Who → Bool) → Atom → Bool
 atom_mentions test (atom.Who w) = test w
 atom_mentions test _ = false
 
--- whether a value speaks of one who passes the test
+-- whether a value refers to one that passes the test
 abbrev mutual
   pub mentions : (Who → Bool) → WrittenValue → Bool
   mentions test (written.Atom a) = atom_mentions test a
@@ -38,7 +38,7 @@ values_of (forms.ResolveKept n c) = Some c.values
 values_of (forms.Return vs) = Some vs
 values_of _ = None
 
--- to whom a statement goes, or whom it names
+-- the actor that a statement sends to or names
 abbrev pub who_of : Statement → Option Who
 who_of (forms.Send w c) = Some w
 who_of (forms.New n w c) = Some w
@@ -54,6 +54,6 @@ message_of (forms.ResolveKept n c) = Some c.message
 message_of (forms.RejectKept n m) = Some m
 message_of _ = None
 
--- whether a statement speaks of one who passes the test
+-- whether a statement refers to one that passes the test
 abbrev pub speaks_of : (Who → Bool) → Statement → Bool
 speaks_of test s = option_map_or test (who_of s) false || option_map_or (any_mentions test) (values_of s) false

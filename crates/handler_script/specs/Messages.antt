@@ -30,7 +30,7 @@ message_in name protocol = find (λ m. bytes_eq m.name name) protocol.messages
 abbrev pub message_named : Schema → MessageName → Option MessageRow
 message_named schema name = option_and_then (message_in name.message) (protocol_named schema name.protocol)
 
--- the message that a statement names, where it is there
+-- the message that a statement names, if it exists
 abbrev pub named : Schema → Statement → Option MessageRow
 named schema s = option_and_then (message_named schema) (message_of s)
 
@@ -40,13 +40,7 @@ receives side.Parent direction.Child = false
 receives side.Child direction.Parent = false
 receives _ _ = true
 
--- whether it sends them: whether the other side receives them
-abbrev pub sends : Side → Direction → Bool
-sends side.Parent direction.Parent = false
-sends side.Child direction.Child = false
-sends _ _ = true
-
--- the types of what answers an async message with returns, and none of another message
+-- the types of the values that resolve an async message with returns, or `None` for any other message
 abbrev pub if_async : Semantics → Option (List ParamRow) → Option (List ParamRow)
 if_async Async returns = returns
 if_async Sync returns = None
@@ -54,7 +48,7 @@ if_async Sync returns = None
 abbrev pub resolves : MessageRow → Option (List ParamRow)
 resolves message = if_async message.semantics message.returns
 
--- the types of what a sync message with returns gives back, and none of another message
+-- the types of the values that a sync message with returns gives back, or `None` for any other message
 abbrev pub if_sync : Semantics → Option (List ParamRow) → Option (List ParamRow)
 if_sync Sync returns = returns
 if_sync Async returns = None

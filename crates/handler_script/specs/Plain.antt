@@ -12,7 +12,7 @@ use Rattle.handler_script.specs.declared.term.Term.TheVariants as term
 use Rattle.handler_script.specs.declared.term.Terms.{Terms, First'}
 use Rattle.handler_script.specs.declared.term.Terms.TheVariants as terms
 
--- a term, what a maybe holds, and terms, with every box there
+-- a term, the content of a maybe, and terms, with every box at one place
 abbrev mutual
   pub plain_term : Term → Term
   plain_term (term.Struct fields) = term.Struct (plain_terms fields)
@@ -36,7 +36,7 @@ abbrev mutual
   plain_terms terms.Nothing = terms.Nothing
   plain_terms (First' _ first _ rest) = First' one_box (plain_term first) one_box (plain_terms rest)
 
--- an action, a block and a script so
+-- an action, a block and a script, with every box at one place
 abbrev pub plain_action : Action → Action
 plain_action (action.Send who number values) = action.Send who number (plain_terms values)
 plain_action (action.New name who number values) = action.New name who number (plain_terms values)

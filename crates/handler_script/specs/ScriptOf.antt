@@ -27,13 +27,13 @@ use Rattle.handler_script.specs.Plain.{plain_script}
 use Rattle.handler_script.specs.Served.{serves}
 use Rattle.handler_script.specs.Terms.{terms_of}
 
--- the statements of a block, from the lines behind its first one: as far as the next that closes it
+-- the statements of a block, from the lines after its first one, up to the next that closes it
 abbrev pub inside : List LineReading → List Statement
 inside [] = []
 inside (line.Statement held ∷ rest) = if closes held.value then [] else held.value ∷ inside rest
 inside (_ ∷ rest) = inside rest
 
--- the number of a request, and 0 where there is no message
+-- the number of a request, or 0 if there is no message
 abbrev pub request_of : Option MessageRow → ℕ
 request_of message = option_map_or (λ m. m.number) message 0
 
@@ -45,7 +45,7 @@ number_of schema name = request_of (message_named schema name)
 abbrev pub typed : Schema → BlockContext → Statement → WrittenValues → Terms
 typed schema block s values = terms_of schema (unwrap_or (types_of schema block s) []) values
 
--- the action that a statement is which names this message and whose values have these terms; `return` is none
+-- the action of a statement that names this message and whose values have these terms; `return` is not an action
 abbrev pub action_by : Option MessageRow → (WrittenValues → Terms) → Statement → Option Action
 action_by message terms (forms.Send w c) = Some (action.Send w (request_of message) (terms c.values))
 action_by message terms (forms.New n w c) = Some (action.New n w (request_of message) (terms c.values))
@@ -59,7 +59,7 @@ action_by message terms forms.Close = Some action.Close
 action_by message terms forms.Die = Some action.Die
 action_by message terms _ = None
 
--- the action that a statement in a block is
+-- the action of a statement in a block, if it is an action
 abbrev pub action_of : Schema → BlockContext → Statement → Option Action
 action_of schema block s = action_by (named schema s) (typed schema block s) s
 
@@ -81,7 +81,7 @@ block_of schema block statements = record {
   reply = first_of (filter_map (reply_of schema block) statements);
 }
 
--- the block that a statement opens before these lines
+-- the block that a statement opens, where these lines follow
 abbrev pub blocks_at : Schema → Statement → List LineReading → List Block
 blocks_at schema s rest = option_map_or (λ block. block_of schema block (inside rest) ∷ []) (standing_of schema s) []
 
@@ -91,7 +91,7 @@ blocks_of schema [] = []
 blocks_of schema (line.Statement held ∷ rest) = blocks_at schema held.value rest ++ blocks_of schema rest
 blocks_of schema (_ ∷ rest) = blocks_of schema rest
 
--- What the lines of the text say breaks no rule, and the script has its top and its blocks, up to where boxes lie.
+-- The readings of the text break no rule, and the script has its top and its blocks, up to where boxes lie.
 pub record IsScriptOf (text : List ℕ) (schema : Schema) (top : ℕ) (script : Script) : Type 0 where
   pub readings : List LineReading
   pub is_reading : IsReading text readings

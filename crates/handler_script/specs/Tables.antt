@@ -21,6 +21,6 @@ row_at name map = option_map (λ m. m.now) (at_name name map)
 abbrev pub found_in : MessageTable → MessageName → Option MessageRow
 found_in table name = option_and_then (row_at name.message) (at_name name.protocol table.protocols)
 
--- a table finds what the schema has, under every name
+-- a table finds under every name what the schema has
 abbrev pub IsTableOf : Schema → MessageTable → Type 0
 IsTableOf schema table = (name : MessageName) → found_in table name ≡ message_named schema name

@@ -1,4 +1,4 @@
--- What written values stand for in a type: whether they fit it, and the term.
+-- What written values mean in a type: whether they fit it, and the term.
 use Rattle.std.specs.Prelude.{◌≡◌, ℕ, suc, zero, ◌+◌, ◌*◌, ◌==◌, ◌⊎◌, if◌then◌else◌, Bool, true, false, IsTrue, pos, List, [], ◌∷◌, length, fold, slice_get, Option, Some, None, IsSome, IsSomeAnd, unwrap_or, option_and_then}
 use Rattle.std.specs.Str.{IsUtf8}
 use Rattle.ipdl_base.specs.declared.builtin.Builtin.{Builtin as BuiltinType}
@@ -26,7 +26,7 @@ use Rattle.handler_script.specs.declared.term.Terms.TheVariants as terms
 
 -- Parameters of the handled message
 
--- the parameter of this number, from 1
+-- the parameter with this number, counted from 1
 abbrev pub param_at : List ParamRow → ℕ → Option ParamRow
 param_at params zero = None
 param_at params (suc n) = slice_get params n
@@ -35,19 +35,19 @@ abbrev pub is_actor : Shape → Bool
 is_actor (Actor protocol nullable) = true
 is_actor _ = false
 
--- A parameter of the one type stands in the place of a value of the other: they are the same, or the one is an actor and the other the same actor, or none.
+-- A parameter of the first type may be given for a value of the second: the types are the same, or they are types of the same actor and the second is nullable.
 abbrev pub StandsFor : Shape → Shape → Type 0
 StandsFor (Actor p nullable) (Actor q true) = p ≡ q
 StandsFor one other = plain_shape one ≡ plain_shape other
 
--- who a value speaks of fits the type: a parameter by its type, and every other the type of any actor
+-- what a value refers to fits the type: a parameter by its own type, anything else if the type is that of an actor
 abbrev pub WhoFits : List ParamRow → Shape → Who → Type 0
 WhoFits given shape (whos.Param n) = IsSomeAnd (param_at given n) (λ param. StandsFor param.shape shape)
 WhoFits given shape _ = IsTrue (is_actor shape)
 
 -- Whether values fit
 
--- so many hexadecimal bytes are the bits of a float or a double
+-- the type is a float or a double, and these hexadecimal bytes have its size
 abbrev pub AreBits : Shape → List ℕ → Type 0
 AreBits shape bytes = IsSomeAnd (option_and_then float_bits (builtin_of shape)) (λ bits. bits ≡ 8 * length bytes)
 
@@ -74,7 +74,7 @@ abbrev mutual
   AllFit schema given shape written_values.Nothing = Unit {0}
   AllFit schema given shape (First' _ v _ vs) = Fits schema given shape v × AllFit schema given shape vs
 
-  -- as many values as fields or parameters, each of which fits the type of its own
+  -- one value for each field or parameter, which fits its type
   pub EachFits : Schema → List ParamRow → List ParamRow → WrittenValues → Type 0
   EachFits schema given [] written_values.Nothing = Unit {0}
   EachFits schema given (field ∷ fields) written_values.Nothing = ⊥
@@ -87,7 +87,7 @@ abbrev mutual
 abbrev pub number_of : List ℕ → ℕ
 number_of bytes = fold (λ n b. 256 * n + b) 0 bytes
 
--- so many hexadecimal bytes: the bits of a float of four, or of a double of eight, and else bytes
+-- hexadecimal bytes: four are the bits of a float and eight those of a double, if that is the type; else bytes
 abbrev pub bytes_term : Option BuiltinType → List ℕ → Term
 bytes_term (Some builtin.Float) bytes = if length bytes == 4 then term.Bits (number_of bytes) else term.Bytes bytes
 bytes_term (Some builtin.Double) bytes = if length bytes == 8 then term.Bits (number_of bytes) else term.Bytes bytes
@@ -106,7 +106,7 @@ atom_term shape atom.Nothing = boxed.Maybe' None'
 atom_term shape atom.Null = term.Actor (pos 0)
 atom_term shape (atom.Who w) = who_term w
 
--- The term that a written value stands for in a type that it fits, with every box at one place. (What has no type of its own is taken in the type around it.)
+-- The term of a written value in a type that it fits, with every box at one place. (What has no type of its own is taken in the type around it.)
 abbrev mutual
   pub term_of : Schema → Shape → WrittenValue → Term
   term_of schema shape (written.Atom a) = atom_term shape a
@@ -120,7 +120,7 @@ abbrev mutual
   elements_of schema shape written_values.Nothing = terms.Nothing
   elements_of schema shape (First' _ v _ vs) = boxed_list.First' one_box (term_of schema shape v) one_box (elements_of schema shape vs)
 
-  -- of values of the types of fields or parameters
+  -- of values, one for each field or parameter
   pub terms_of : Schema → List ParamRow → WrittenValues → Terms
   terms_of schema fields written_values.Nothing = terms.Nothing
   terms_of schema [] (First' _ v _ vs) = terms.Nothing

@@ -1,4 +1,4 @@
--- Scripts that a run can follow: what every script that is read is for its schema.
+-- Scripts that a run can follow. Every script that is read is valid for its schema.
 use Rattle.std.specs.Prelude.{◌≡◌, ℕ, ◌<◌, ◌≤◌, ◌^◌, Bool, true, false, IsTrue, List, [], ◌∷◌, length, count_by, Option, Some, None, IfSome, IsSome, IsSomeAnd, option_and_then, pos}
 use Rattle.std.specs.List.{All}
 use Rattle.std.specs.Str.{IsUtf8}
@@ -24,14 +24,15 @@ use Rattle.handler_script.specs.declared.term.Terms.{Terms, First'}
 use Rattle.handler_script.specs.declared.term.Terms.TheVariants as terms
 use Rattle.handler_script.specs.Blocks.{BlockContext, in_main, in_handler, side_of, given_in, handled_in}
 use Rattle.handler_script.specs.Broken.{HasManager}
-use Rattle.handler_script.specs.Messages.{receives, sends, resolves, replies, is_constructor}
+use Rattle.ipdl_base.specs.Sides.{sends}
+use Rattle.handler_script.specs.Messages.{receives, resolves, replies, is_constructor}
 use Rattle.handler_script.specs.Terms.{param_at, is_actor, StandsFor}
 
--- a name: a word that stands for no one else
+-- a name: a word without another meaning
 abbrev pub IsName : List ℕ → Type 0
 IsName name = IsWord name × (is_no_name name ≡ false)
 
--- Who may be spoken of in a block: a parameter is an actor of the handled message, and what a constructor built stands in its handler.
+-- Who may be named in a block: a parameter must be an actor of the handled message, and what a constructor built is known only in its handler.
 abbrev pub MayName : BlockContext → Who → Type 0
 MayName block whos.Top = Unit {0}
 MayName block whos.This = IsSome (handled_in block)
@@ -39,12 +40,12 @@ MayName block whos.Made = IsSomeAnd (handled_in block) (λ message. IsTrue (is_c
 MayName block (whos.Param n) = IsSomeAnd (param_at (given_in block) n) (λ param. IsTrue (is_actor param.shape))
 MayName block (whos.Name name) = IsName name
 
--- whether one who is spoken of is a parameter
+-- whether it is a parameter
 abbrev pub is_param : Who → Bool
 is_param (whos.Param n) = true
 is_param _ = false
 
--- A term stands for values of a type in a block: a parameter by its own type, and every other actor by any.
+-- A term fits a type in a block: a parameter by its own type, any other actor if the type is that of an actor.
 abbrev mutual
   pub TermFits : Schema → BlockContext → Shape → Term → Type 0
   TermFits schema block shape (term.Bool b) = builtin_of shape ≡ Some builtin.Bool
@@ -65,12 +66,12 @@ abbrev mutual
   HeldTermFits schema block shape None' = Unit {0}
   HeldTermFits schema block shape (Some' _ t) = TermFits schema block shape t
 
-  -- each term stands for values of the type
+  -- each term fits the type
   pub AllTermsFit : Schema → BlockContext → Shape → Terms → Type 0
   AllTermsFit schema block shape terms.Nothing = Unit {0}
   AllTermsFit schema block shape (First' _ t _ ts) = TermFits schema block shape t × AllTermsFit schema block shape ts
 
-  -- as many terms as fields or parameters, each for values of the type of its own
+  -- one term for each field or parameter, which fits its type
   pub EachTermFits : Schema → BlockContext → List ParamRow → Terms → Type 0
   EachTermFits schema block [] terms.Nothing = Unit {0}
   EachTermFits schema block (field ∷ fields) terms.Nothing = ⊥
@@ -104,7 +105,7 @@ answers_handled action.Reject = true
 answers_handled (action.Keep name) = true
 answers_handled _ = false
 
--- The actions and the returned values of a block can be done and given, and at most one action answers the handled message.
+-- The actions of a block can be done, its returned values can be given, and at most one action answers the handled message.
 pub record IsValidIn (schema : Schema) (standing : BlockContext) (block : Block) : Type 0 where
   pub actions : All (IsValidAction schema standing) block.actions
   pub once : count_by answers_handled block.actions ≤ 1
@@ -119,7 +120,7 @@ abbrev pub IsValidBlock : Schema → Block → Option ℕ → Type 0
 IsValidBlock schema block None = IsValidIn schema (in_main block.side) block
 IsValidBlock schema block (Some number) = IsSomeAnd (message_of schema number) (IsHandledBy schema block number)
 
--- The script is valid for the schema: its top is a protocol of it without a manager, it has fewer than 2^32 blocks, and each of these can be done.
+-- The script is valid for the schema: its top is a protocol of it without a manager, it has fewer than 2^32 blocks, and each of these can be run.
 pub record IsValid (schema : Schema) (script : Script) : Type 0 where
   pub top : script.top < length schema.protocols
   pub unmanaged : ¬ HasManager schema script.top

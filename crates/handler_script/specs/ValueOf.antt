@@ -1,4 +1,4 @@
--- Which values terms stand for, where a message is handled and an end holds names.
+-- Which values terms represent, where a message is handled and an end has names.
 use Rattle.std.specs.Prelude.{ℕ, zero, suc, ℤ, pos, negsuc, List, Option, unwrap_or}
 use Rattle.ipdl_base.specs.Plain.{one_box, plain}
 use Rattle.ipdl_base.specs.declared.value.Value.{Value}
@@ -7,6 +7,7 @@ use Rattle.ipdl_base.specs.declared.value.Value.TheVariants as value
 use Rattle.ipdl_base.specs.declared.value.Values.{Values}
 use Rattle.ipdl_base.specs.declared.value.Values as boxed_list
 use Rattle.ipdl_base.specs.declared.value.Values.TheVariants as values
+use Rattle.ipdl_base.specs.Sides.{top_id}
 use Rattle.script_reader.specs.declared.written.Who.{Who}
 use Rattle.script_reader.specs.declared.written.Who.TheVariants as whos
 use Rattle.handler_script.specs.declared.term.Term.{Term, Union', Maybe', Held-Term-Maybe-0, None', Some'}
@@ -14,27 +15,24 @@ use Rattle.handler_script.specs.declared.term.Term.TheVariants as term
 use Rattle.handler_script.specs.declared.term.Terms.{Terms, First'}
 use Rattle.handler_script.specs.declared.term.Terms.TheVariants as terms
 
--- what terms are seen with: the handled message's actor, the actor that it built and its parameters, and the ids that names hold
+-- the context of terms: the handled message's actor, the actor that it built and its parameters, and the ids that names have
 pub record TermContext : Type 0 where
   pub this : ℤ
   pub made : ℤ
   pub given : Values
   pub held : List ℕ → Option ℤ
 
--- the id of the top actor, and an id that never lives
-abbrev pub top_id : ℤ
-top_id = pos 2147483647
-
+-- an id that never lives
 abbrev pub no_id : ℤ
 no_id = negsuc 0
 
--- the value of this index among values, and an actor that never lives where there is none
+-- the value with this index, or an actor that never lives if there is no such value
 abbrev pub value_at : Values → ℕ → Value
 value_at values.Nothing n = value.Actor no_id
 value_at (boxed_list.First' _ v _ vs) zero = v
 value_at (boxed_list.First' _ v _ vs) (suc n) = value_at vs n
 
--- the value of the parameter of this number, from 1
+-- the value of the parameter with this number, counted from 1
 abbrev pub given_at : Values → ℕ → Value
 given_at given zero = value.Actor no_id
 given_at given (suc n) = plain (value_at given n)
@@ -43,7 +41,7 @@ abbrev pub id_in : Value → ℤ
 id_in (value.Actor id) = id
 id_in _ = no_id
 
--- The id of an actor that is spoken of. A name that holds nothing stands for one that never lives.
+-- The id of an actor that is named. A name without an actor gives the id of one that never lives.
 abbrev pub id_of : TermContext → Who → ℤ
 id_of seen whos.Top = top_id
 id_of seen whos.This = seen.this
@@ -51,7 +49,7 @@ id_of seen whos.Made = seen.made
 id_of seen (whos.Param n) = id_in (given_at seen.given n)
 id_of seen (whos.Name name) = unwrap_or (seen.held name) no_id
 
--- the value that a term stands for, with every box at one place
+-- the value that a term represents, with every box at one place
 abbrev mutual
   pub value_of : TermContext → Term → Value
   value_of seen (term.Bool b) = value.Bool b
@@ -71,7 +69,7 @@ abbrev mutual
   held_of seen None' = boxed.None'
   held_of seen (Some' _ t) = boxed.Some' one_box (value_of seen t)
 
-  -- the values that terms stand for
+  -- the values that terms represent
   pub values_of : TermContext → Terms → Values
   values_of seen terms.Nothing = values.Nothing
   values_of seen (First' _ t _ ts) = boxed_list.First' one_box (value_of seen t) one_box (values_of seen ts)

@@ -1,4 +1,4 @@
--- What is asked of those whom values speak of.
+-- A question about the actors and parameters that values refer to.
 use Rattle.std.specs.Prelude.{Bool}
 use Rattle.script_reader.specs.declared.written.Who.{Who}
 use Rattle.handler_script.specs.declared.mentions.ValueQuery.{ValueQuery}

@@ -1,3 +1,5 @@
+//! The actions and blocks of a script.
+
 ghost use Rattle.std.specs.Prelude.{◌≡◌, filter, slice_get};
 ghost use Rattle.std.specs.Option.{option_map};
 ghost use Rattle.handler_script.specs.Served.{serves};
@@ -6,7 +8,7 @@ use crate::term::Terms;
 use ipdl_base::{Items, Name, Side};
 use script_reader::Who;
 
-/// What a side does in one step of a block. Numbers are those of requests.
+/// One step of a side in a block. Each `number` is that of a request.
 #[derive(Drop)]
 pub enum Action {
     /// Sends a message.
@@ -31,7 +33,7 @@ pub enum Action {
     Resolve {
         values: Terms,
     },
-    /// Answers that the handled message is rejected.
+    /// Rejects the handled message.
     Reject,
     /// Keeps the resolver of the handled message under a name.
     Keep {
@@ -50,35 +52,39 @@ pub enum Action {
     },
     /// Closes the end.
     Close,
-    /// Ends the end.
+    /// Kills the end.
     Die,
 }
 
 /// A list of actions.
 pub type Actions = Items<Action>;
 
-/// What a side does by itself, or when it handles a message.
+/// What a side does on its own (its main), or when it handles a message.
 #[derive(Drop)]
 pub struct Block {
+    /// The side that runs the block.
     pub side: Side,
-    /// The number of the handled message; a main has none.
+    /// The number of the handled message, or `None` for a main.
     pub handles: Option<u32>,
+    /// The actions, in text order.
     pub actions: Actions,
-    /// The values that the block returns.
+    /// The values that the block returns, if it has a `return`.
     pub reply: Option<Terms>,
 }
 
 /// A list of blocks.
 pub type Blocks = Items<Block>;
 
-/// Whether a block is the main of the side, or one for the message.
+/// Returns whether a block is a main of the side (`handled` is `None`), or a handler of the message of
+/// this number.
 pub fn serves(block: &Block, side: Side, handled: Option<u32>) -> bool
     ensures { result ≡ serves side handled block.now }
 {
     block.side == side && block.handles == handled
 }
 
-/// The block of this index among those of the side for the message, or among its mains.
+/// Returns the block with this index, from 0, among the handlers of the message at the side, or among
+/// the mains of the side.
 pub fn block_at(blocks: &[Block], side: Side, handled: Option<u32>, at: u32) -> Option<&Block>
     ensures { option_map (λ b. b.now) result ≡ slice_get (filter (serves side handled) blocks.now) at }
 {

@@ -1,3 +1,5 @@
+//! Builds the blocks of a script from the readings of its lines.
+
 ghost use Rattle.std.specs.Prelude.{◌≡◌, ◌++◌, map, IfOk, OnOk};
 ghost use Rattle.std.specs.List.{filter_map};
 ghost use Rattle.std.specs.Option.{option_map};
@@ -10,7 +12,7 @@ ghost use Rattle.handler_script.specs.Terms as terms;
 
 use crate::action::{Action, Actions, Block, Blocks};
 use crate::context::{Context, context_of, handled_in, side_of};
-use crate::lines::{closes, lines_behind, opens, said};
+use crate::lines::{closes, lines_after, opens, said};
 use crate::rules::{replies_in, types_of};
 use crate::table::MessageTable;
 use crate::term::Terms;
@@ -19,7 +21,7 @@ use ipdl_base::{Items, MessageRow, ParamRow, Schema};
 use script_reader::{LineReading, Statement, WrittenValues};
 use std::alloc::{AllocError, Global};
 
-/// The number of a request, and 0 where there is no message.
+/// Returns the number of a request, or 0 if there is no message.
 fn request_of(message: Option<&MessageRow>) -> u32
     ensures { result ≡ script_of.request_of (option_map (λ m. m.now) message.entry) }
 {
@@ -29,7 +31,8 @@ fn request_of(message: Option<&MessageRow>) -> u32
     }
 }
 
-/// The action that a statement is which names this message and whose values are of these types.
+/// Returns the action of a statement that names this message and has values of these types, if it is an
+/// action.
 fn action_of(
     alloc: Global,
     schema: &Schema,
@@ -82,7 +85,7 @@ fn action_of(
     Ok(Some(action))
 }
 
-/// Puts the action last that a statement in a block is, if it is one.
+/// Adds the action of a statement in a block, if it is an action.
 fn add_action(
     alloc: Global,
     schema: &Schema,
@@ -103,7 +106,7 @@ fn add_action(
     Ok(())
 }
 
-/// The actions of a block whose first line stands before these.
+/// Returns the actions of a block whose first line is just before these.
 fn actions_in(
     alloc: Global,
     schema: &Schema,
@@ -127,7 +130,7 @@ fn actions_in(
     Ok(Items::from_vec(actions))
 }
 
-/// The values that a statement returns, if it is a `return`.
+/// Returns the values that a statement returns, if it is a `return`.
 fn returned(statement: &Statement) -> Option<&WrittenValues>
     ensures { option_map (λ vs. vs.now) result ≡ returned_by statement.now }
 {
@@ -137,7 +140,7 @@ fn returned(statement: &Statement) -> Option<&WrittenValues>
     }
 }
 
-/// The values that a block returns whose first line stands before these.
+/// Returns the values that a block returns, where its first line is just before these.
 fn reply_in(
     alloc: Global,
     schema: &Schema,
@@ -161,7 +164,7 @@ fn reply_in(
     Ok(None)
 }
 
-/// The block whose first line stands before these.
+/// Returns the block whose first line is just before these.
 fn block_of(
     alloc: Global,
     schema: &Schema,
@@ -182,7 +185,7 @@ fn block_of(
     })
 }
 
-/// Puts the block last that a line opens before these lines, if it opens one.
+/// Adds the block that a line opens, if it opens one. `rest` has the lines after it.
 fn add_block(
     alloc: Global,
     schema: &Schema,
@@ -204,7 +207,7 @@ fn add_block(
     Ok(())
 }
 
-/// The blocks of lines, in their order.
+/// Returns the blocks of lines, in their order.
 pub fn blocks_of(
     alloc: Global,
     schema: &Schema,
@@ -216,7 +219,7 @@ pub fn blocks_of(
 {
     let mut blocks = Vec::new(alloc);
     for (i, line) in readings.iter().enumerate() {
-        let rest = lines_behind(readings, i);
+        let rest = lines_after(readings, i);
         add_block(alloc, schema, messages, line, rest, &mut blocks)?;
     }
     Ok(Items::from_vec(blocks))

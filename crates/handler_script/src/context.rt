@@ -1,3 +1,5 @@
+//! The block in which a line is tested.
+
 ghost use Rattle.std.specs.Prelude.{◌≡◌, option_map};
 ghost use Rattle.handler_script.specs.Blocks as blocks;
 ghost use Rattle.handler_script.specs.Broken as broken;
@@ -12,11 +14,11 @@ use script_reader::Statement;
 pub enum Context<'a> {
     /// The main of a side.
     Main(Side),
-    /// A handler of a message.
+    /// A handler of a message at a side.
     Handler(Side, &'a MessageRow),
 }
 
-/// The block that a statement opens, if it names this message.
+/// Returns the block that a statement opens, if any, where `message` is the message that it names.
 pub fn context_of<'a>(statement: &Statement, message: Option<&'a MessageRow>) -> Option<Context<'a>>
     ensures { option_map standing_in result ≡ blocks.standing_by (option_map (λ m. m.now) message.entry) statement.now }
 {
@@ -27,7 +29,7 @@ pub fn context_of<'a>(statement: &Statement, message: Option<&'a MessageRow>) ->
     }
 }
 
-/// The side of a block.
+/// Returns the side of a block.
 pub fn side_of(context: Context<'_>) -> Side
     ensures { result ≡ blocks.side_of (standing_in context.entry) }
 {
@@ -37,7 +39,7 @@ pub fn side_of(context: Context<'_>) -> Side
     }
 }
 
-/// The parameters of the handled message.
+/// Returns the parameters of the handled message; a main has no parameters.
 pub fn given_in<'a>(context: Context<'a>) -> &'a [ParamRow]
     ensures { result.now ≡ blocks.given_in (standing_in context.entry) }
 {
@@ -47,7 +49,7 @@ pub fn given_in<'a>(context: Context<'a>) -> &'a [ParamRow]
     }
 }
 
-/// The handled message.
+/// Returns the handled message, or `None` in a main.
 pub fn handled_in<'a>(context: Context<'a>) -> Option<&'a MessageRow>
     ensures { option_map (λ m. m.now) result ≡ blocks.handled_in (standing_in context.entry) }
 {
@@ -57,14 +59,14 @@ pub fn handled_in<'a>(context: Context<'a>) -> Option<&'a MessageRow>
     }
 }
 
-/// Whether the side cannot receive the message whose block is opened.
+/// Returns whether the side cannot receive the message whose block is opened.
 pub fn is_misdirected(opened: Option<Context<'_>>) -> bool
     ensures { result ≡ broken.is_misdirected (option_map standing_in opened.entry) }
 {
     matches!(opened, Some(Context::Handler(side, message)) if !receives(side, message.direction))
 }
 
-/// Whether no channel carries the message whose block is opened.
+/// Returns whether no channel carries the message whose block is opened.
 pub fn is_uncarried(opened: Option<Context<'_>>) -> bool
     ensures { result ≡ broken.is_uncarried (option_map standing_in opened.entry) }
 {

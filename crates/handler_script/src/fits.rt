@@ -1,3 +1,5 @@
+//! Whether written values fit types.
+
 ghost use Rattle.std.specs.Prelude.{◌≡◌, ◌↔◌, IsTrue, option_map};
 ghost use Rattle.handler_script.specs.Terms as terms;
 
@@ -5,7 +7,7 @@ use ipdl_base::{Builtin, ParamRow, Schema, Shape, Value};
 use script_reader::{Atom, Who, WrittenValue, WrittenValues};
 use value_types::{builtin_of, component_of, element_of, fields_of, held_by, is_bytes, value_fits};
 
-/// The parameter of this number, from 1.
+/// Returns the parameter with this number, counted from 1.
 pub fn param_at(params: &[ParamRow], n: u32) -> Option<&ParamRow>
     ensures { option_map (λ p. p.now) result ≡ terms.param_at params.now n }
 {
@@ -15,14 +17,15 @@ pub fn param_at(params: &[ParamRow], n: u32) -> Option<&ParamRow>
     params.get((n - 1) as usize)
 }
 
-/// Whether a type is that of an actor.
+/// Returns whether a type is that of an actor.
 pub fn is_actor(shape: &Shape) -> bool
     ensures { result ≡ terms.is_actor shape.now }
 {
     matches!(shape, Shape::Actor(_, _))
 }
 
-/// Whether a parameter of the one type stands in the place of a value of the other.
+/// Returns whether a parameter of the type `one` may be given where a value of the type `other` is
+/// expected.
 fn stands_for(one: &Shape, other: &Shape) -> bool
     ensures { IsTrue result ↔ terms.StandsFor one.now other.now }
 {
@@ -32,7 +35,7 @@ fn stands_for(one: &Shape, other: &Shape) -> bool
     }
 }
 
-/// Whether one who is spoken of fits a type.
+/// Returns whether an actor or parameter that a value refers to fits a type.
 fn who_fits(given: &[ParamRow], shape: &Shape, who: &Who) -> bool
     ensures { IsTrue result ↔ terms.WhoFits given.now shape.now who.now }
 {
@@ -45,7 +48,7 @@ fn who_fits(given: &[ParamRow], shape: &Shape, who: &Who) -> bool
     }
 }
 
-/// Whether so many hexadecimal bytes are the bits of a float or a double.
+/// Returns whether the type is a float or a double, and these hexadecimal bytes have its size.
 fn are_bits(shape: &Shape, bytes: &[u8]) -> bool
     ensures { IsTrue result ↔ terms.AreBits shape.now bytes.now }
 {
@@ -56,7 +59,7 @@ fn are_bits(shape: &Shape, bytes: &[u8]) -> bool
     }
 }
 
-/// Whether a value of one token fits a type.
+/// Returns whether a value of one token fits a type.
 fn atom_fits(atom: &Atom, schema: &Schema, given: &[ParamRow], shape: &Shape) -> bool
     ensures { IsTrue result ↔ terms.AtomFits given.now shape.now atom.now }
 {
@@ -74,7 +77,7 @@ fn atom_fits(atom: &Atom, schema: &Schema, given: &[ParamRow], shape: &Shape) ->
     }
 }
 
-/// Whether a written value fits a type.
+/// Returns whether a written value fits a type.
 #[cycle(fits)]
 fn fits(value: &WrittenValue, schema: &Schema, given: &[ParamRow], shape: &Shape) -> bool
     ensures { IsTrue result ↔ terms.Fits schema.now given.now shape.now value.now }
@@ -100,7 +103,7 @@ fn fits(value: &WrittenValue, schema: &Schema, given: &[ParamRow], shape: &Shape
     }
 }
 
-/// Whether each value fits the type.
+/// Returns whether each value fits the type.
 #[cycle(fits)]
 fn all_fit(values: &WrittenValues, schema: &Schema, given: &[ParamRow], shape: &Shape) -> bool
     ensures { IsTrue result ↔ terms.AllFit schema.now given.now shape.now values.now }
@@ -113,7 +116,7 @@ fn all_fit(values: &WrittenValues, schema: &Schema, given: &[ParamRow], shape: &
     }
 }
 
-/// Whether there are as many values as fields or parameters, each of which fits the type of its own.
+/// Returns whether there is one value for each field or parameter, and each fits its type.
 #[cycle(fits)]
 pub fn each_fits(
     values: &WrittenValues,

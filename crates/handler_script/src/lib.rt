@@ -1,5 +1,6 @@
-//! Handler scripts: what each side does by itself and when it handles messages (docs/scripts.md).
-//! The rules that a script can break, the script of a text that breaks none, and its actions one by one.
+//! Handler scripts: what each side does on its own and when it handles messages (docs/scripts.md). Has
+//! the rules that a script can break, the script of a text that breaks no rule, and its actions one by
+//! one.
 #![tactic(auto)]
 
 mod action;
@@ -19,7 +20,7 @@ mod typed;
 
 pub use action::{Action, Actions, Block, Blocks};
 pub use fits::each_fits;
-pub use messages::{receives, replies, resolves, sends};
+pub use messages::{receives, replies, resolves};
 pub use read::read_script;
 pub use script::{Point, Script, ScriptFault};
 pub use script_reader::Who;

@@ -1,3 +1,5 @@
+//! What is known of the lines up to one, and whether a block ends after it.
+
 ghost use Rattle.std.specs.Prelude.{◌≡◌, ◌↔◌, ◌+◌, ◌<◌, IsTrue, length, drop, option_map};
 ghost use Rattle.std.specs.List.{list_any};
 ghost use Rattle.handler_script.specs.Blocks as blocks;
@@ -10,24 +12,24 @@ use script_reader::{LineReading, Statement};
 /// A block that is open.
 #[derive(Clone, Copy)]
 pub struct OpenBlock<'a> {
-    /// Where its lines are tested, if the message that it handles is there.
+    /// The block, if the message that it handles exists.
     pub context: Option<Context<'a>>,
-    /// Whether a line of it answers the handled message, or keeps its resolver.
+    /// Whether one of its lines answers the handled message or keeps its resolver.
     pub answered: bool,
 }
 
-/// What is known behind lines.
+/// What is known after some lines.
 #[derive(Clone, Copy)]
 pub struct BlockProgress<'a> {
-    /// The block that is open.
+    /// The block that is open, if one is.
     pub block: Option<OpenBlock<'a>>,
-    /// Whether a main of the parent stood among them.
+    /// Whether there was a main of the parent.
     pub parent: bool,
-    /// Whether a main of the child did.
+    /// Whether there was a main of the child.
     pub child: bool,
 }
 
-/// The statement of a line, if it is one.
+/// Returns the statement of a line, if it has one.
 pub fn said(line: &LineReading) -> Option<&Statement>
     ensures { option_map (λ s. s.now) result ≡ blocks.said line.now }
 {
@@ -37,29 +39,29 @@ pub fn said(line: &LineReading) -> Option<&Statement>
     }
 }
 
-/// The lines behind the one of this index.
-pub fn lines_behind(lines: &[LineReading], index: usize) -> &[LineReading]
+/// Returns the lines after the one with this index.
+pub fn lines_after(lines: &[LineReading], index: usize) -> &[LineReading]
     requires { index < length lines.now }
     ensures { result.now ≡ drop (index + 1) lines.now }
 {
     &lines[index + 1..]
 }
 
-/// Whether a statement opens a block.
+/// Returns whether a statement opens a block.
 pub fn opens(statement: &Statement) -> bool
     ensures { result ≡ blocks.opens statement.now }
 {
     matches!(statement, Statement::Main(_) | Statement::On(_, _))
 }
 
-/// Whether a statement closes the block that it stands in.
+/// Returns whether a statement ends the block before it: `end`, or one that opens another block.
 pub fn closes(statement: &Statement) -> bool
     ensures { result ≡ blocks.closes statement.now }
 {
     opens(statement) || matches!(statement, Statement::End)
 }
 
-/// Whether a statement answers the handled message, or keeps its resolver.
+/// Returns whether a statement answers the handled message, or keeps its resolver.
 pub fn answers(statement: &Statement) -> bool
     ensures { result ≡ blocks.answers statement.now }
 {
@@ -69,7 +71,7 @@ pub fn answers(statement: &Statement) -> bool
     )
 }
 
-/// Whether another action, or another `return`, of the same block follows in these lines.
+/// Returns whether another statement of the same block follows in these lines.
 pub fn is_followed(lines: &[LineReading]) -> bool
     ensures { IsTrue result ↔ blocks.IsFollowed (blocks.statements lines.now) }
 {
@@ -81,7 +83,7 @@ pub fn is_followed(lines: &[LineReading]) -> bool
     false
 }
 
-/// Whether a block that is open before these lines is closed in them.
+/// Returns whether a block that is open before these lines is closed in them.
 pub fn is_closed(lines: &[LineReading]) -> bool
     ensures { result ≡ list_any blocks.closes (blocks.statements lines.now) }
 {
@@ -95,7 +97,7 @@ pub fn is_closed(lines: &[LineReading]) -> bool
     false
 }
 
-/// Whether a statement is a main of the side.
+/// Returns whether a statement is a main of the side.
 fn is_main(statement: &Statement, side: Side) -> bool
     ensures { result ≡ broken.is_main side statement.now }
 {
@@ -109,9 +111,9 @@ impl<'a> OpenBlock<'a> {
     ghost use Rattle.handler_script.specs.Contexts.{standing_in};
     ghost use Rattle.handler_script.specs.Knowing.{KnowsBlock};
 
-    /// The block that is open behind a statement where this one was, if it opens this one where it
-    /// opens any.
-    fn behind(
+    /// Returns the block that is open after a statement, where `block` was open before it. `opened` is
+    /// the block that the statement opens, if it opens one.
+    fn following(
         block: Option<OpenBlock<'a>>,
         statement: &Statement,
         opened: Option<Context<'a>>,
@@ -144,7 +146,7 @@ impl<'a> BlockProgress<'a> {
     ghost use Rattle.handler_script.specs.Contexts.{standing_in};
     ghost use Rattle.handler_script.specs.Knowing.{Knows};
 
-    /// Whether a main of the side stood among the lines.
+    /// Returns whether there was a main of the side.
     pub fn has_main(self, side: Side) -> bool
         ensures { (schema : SchemaType) (before : List StatementType) → Knows schema before self.entry → result ≡ list_any (broken.is_main side) before }
     {
@@ -154,14 +156,15 @@ impl<'a> BlockProgress<'a> {
         }
     }
 
-    /// What is known behind one more statement, which opens this block if it opens one.
-    pub fn behind(self, statement: &Statement, opened: Option<Context<'a>>) -> BlockProgress<'a>
+    /// Returns what is known after one more statement. `opened` is the block that it opens, if it opens
+    /// one.
+    pub fn following(self, statement: &Statement, opened: Option<Context<'a>>) -> BlockProgress<'a>
         ensures { (schema : SchemaType) (before : List StatementType) → Knows schema before self.entry
             → option_map standing_in opened.entry ≡ blocks.standing_of schema statement.now
             → Knows schema (before ++ statement.now ∷ []) result }
     {
         BlockProgress {
-            block: OpenBlock::behind(self.block, statement, opened),
+            block: OpenBlock::following(self.block, statement, opened),
             parent: self.parent || is_main(statement, Side::Parent),
             child: self.child || is_main(statement, Side::Child),
         }

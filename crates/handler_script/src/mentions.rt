@@ -1,3 +1,5 @@
+//! Which actors and parameters a statement refers to, and which message it names.
+
 ghost use Rattle.std.specs.Prelude.{◌≡◌, option_map};
 ghost use Rattle.handler_script.specs.Broken.{is_unknown};
 ghost use Rattle.handler_script.specs.Contexts.{standing_in};
@@ -10,16 +12,16 @@ use crate::messages::is_constructor;
 use ipdl_base::ParamRow;
 use script_reader::{Atom, MessageName, Statement, Who, WrittenValue, WrittenValues};
 
-/// What is asked of those whom values speak of.
+/// A question about the actors and parameters that values refer to.
 #[derive(Clone, Copy)]
 pub enum ValueQuery<'a> {
-    /// Whether it is a parameter that is not among these.
+    /// Whether it is a parameter that these do not include.
     Absent(&'a [ParamRow]),
-    /// Whether it is one who is not known in this block.
+    /// Whether it is unknown in this block.
     Unknown(Context<'a>),
 }
 
-/// Whether one is not known in a block.
+/// Returns whether an actor or parameter is unknown in a block.
 fn is_unknown(context: Context<'_>, who: &Who) -> bool
     ensures { result ≡ is_unknown (standing_in context.entry) who.now }
 {
@@ -30,7 +32,7 @@ fn is_unknown(context: Context<'_>, who: &Who) -> bool
     }
 }
 
-/// Whether this is so of one.
+/// Returns whether the answer for this actor or parameter is yes.
 fn passes(asked: ValueQuery<'_>, who: &Who) -> bool
     ensures { result ≡ test_of asked.entry who.now }
 {
@@ -43,7 +45,7 @@ fn passes(asked: ValueQuery<'_>, who: &Who) -> bool
     }
 }
 
-/// Whether it is so of one whom a value speaks of.
+/// Returns whether the answer is yes for something that a value refers to.
 #[cycle(mentions)]
 fn value_mentions(value: &WrittenValue, asked: ValueQuery<'_>) -> bool
     ensures { result ≡ mentions.mentions (test_of asked.entry) value.now }
@@ -58,7 +60,7 @@ fn value_mentions(value: &WrittenValue, asked: ValueQuery<'_>) -> bool
     }
 }
 
-/// Whether it is so of one whom values speak of.
+/// Returns whether the answer is yes for something that values refer to.
 #[cycle(mentions)]
 pub fn any_mentions(values: &WrittenValues, asked: ValueQuery<'_>) -> bool
     ensures { result ≡ mentions.any_mentions (test_of asked.entry) values.now }
@@ -71,7 +73,7 @@ pub fn any_mentions(values: &WrittenValues, asked: ValueQuery<'_>) -> bool
     }
 }
 
-/// The values of a statement.
+/// Returns the values of a statement, if it has values.
 pub fn values_of(statement: &Statement) -> Option<&WrittenValues>
     ensures { option_map (λ vs. vs.now) result ≡ mentions.values_of statement.now }
 {
@@ -83,7 +85,7 @@ pub fn values_of(statement: &Statement) -> Option<&WrittenValues>
     }
 }
 
-/// To whom a statement goes, or whom it names.
+/// Returns the actor that a statement sends to or names, if it has one.
 pub fn who_of(statement: &Statement) -> Option<&Who>
     ensures { option_map (λ w. w.now) result ≡ mentions.who_of statement.now }
 {
@@ -93,7 +95,7 @@ pub fn who_of(statement: &Statement) -> Option<&Who>
     }
 }
 
-/// The message that a statement names.
+/// Returns the message that a statement names, if it names one.
 pub fn message_of(statement: &Statement) -> Option<&MessageName>
     ensures { option_map (λ m. m.now) result ≡ mentions.message_of statement.now }
 {
@@ -105,7 +107,7 @@ pub fn message_of(statement: &Statement) -> Option<&MessageName>
     }
 }
 
-/// Whether it is so of one whom a statement speaks of.
+/// Returns whether the answer is yes for something that a statement refers to.
 pub fn speaks_of(statement: &Statement, asked: ValueQuery<'_>) -> bool
     ensures { result ≡ mentions.speaks_of (test_of asked.entry) statement.now }
 {

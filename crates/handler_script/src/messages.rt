@@ -1,9 +1,11 @@
+//! Which side sends and receives a message, and the types of its answers.
+
 ghost use Rattle.std.specs.Prelude.{◌≡◌, option_map};
 ghost use Rattle.handler_script.specs.Messages as messages;
 
 use ipdl_base::{Direction, Kind, MessageRow, ParamRow, Semantics, Side};
 
-/// Whether the side receives messages of this direction.
+/// Returns whether the side receives messages of this direction.
 pub fn receives(side: Side, direction: Direction) -> bool
     ensures { result ≡ messages.receives side direction }
 {
@@ -13,17 +15,8 @@ pub fn receives(side: Side, direction: Direction) -> bool
     }
 }
 
-/// Whether the side sends messages of this direction.
-pub fn sends(side: Side, direction: Direction) -> bool
-    ensures { result ≡ messages.sends side direction }
-{
-    match (side, direction) {
-        (Side::Parent, Direction::Parent) | (Side::Child, Direction::Child) => false,
-        _ => true,
-    }
-}
-
-/// The types of what answers an async message with returns.
+/// Returns the types of the values that resolve an async message with returns, or `None` for any other
+/// message.
 pub fn resolves(message: &MessageRow) -> Option<&[ParamRow]>
     ensures { option_map (λ ps. ps.now) result ≡ messages.resolves message.now }
 {
@@ -33,7 +26,8 @@ pub fn resolves(message: &MessageRow) -> Option<&[ParamRow]>
     }
 }
 
-/// The types of what a sync message with returns gives back.
+/// Returns the types of the values that a sync message with returns gives back, or `None` for any other
+/// message.
 pub fn replies(message: &MessageRow) -> Option<&[ParamRow]>
     ensures { option_map (λ ps. ps.now) result ≡ messages.replies message.now }
 {
@@ -43,7 +37,7 @@ pub fn replies(message: &MessageRow) -> Option<&[ParamRow]>
     }
 }
 
-/// Whether a message makes an actor.
+/// Returns whether a message makes an actor.
 pub fn is_constructor(kind: Kind) -> bool
     ensures { result ≡ messages.is_constructor kind }
 {

@@ -1,3 +1,5 @@
+//! Reads a script from text.
+
 ghost use Rattle.std.specs.Prelude.{◌≡◌, ◌<◌, ◌≤◌, length, IfOk, IfErr};
 ghost use Rattle.ipdl_base.specs.declared.files.TheConstants.{MOST_BYTES};
 ghost use Rattle.ipdl_base.specs.Sound.{IsSound};
@@ -13,9 +15,9 @@ use ipdl_base::Schema;
 use script_reader::read_lines;
 use std::alloc::Global;
 
-/// The script of a text, for a schema and the number of its top protocol (docs/scripts.md). `Broken`
-/// gives the rules that the text breaks, in order, where it breaks any. Takes time in proportion to
-/// the text and the schema, but for the sort of the findings.
+/// Reads the script of a text, for a schema and the number of its top protocol (docs/scripts.md). If
+/// the text breaks rules, the error is `Broken` with their findings in order. Takes time in proportion
+/// to the text and the schema, except for sorting the findings.
 pub fn read_script(
     alloc: Global,
     text: &[u8],

@@ -1,3 +1,5 @@
+//! The findings of all rules on a script.
+
 ghost use Rattle.std.specs.Prelude.{◌≡◌, ◌↔◌, ◌<◌, ◌^◌, ◌∷◌, [], ◌++◌, List, length, IsTrue, IsSomeAnd, OnOk, IfOk, option_map};
 ghost use Rattle.findings.specs.Gains.{Gains};
 ghost use Rattle.findings.specs.Report as report;
@@ -11,7 +13,7 @@ ghost use Rattle.handler_script.specs.Messages.{named};
 ghost use Rattle.handler_script.specs.Tables.{IsTableOf};
 
 use crate::context::{Context, context_of, given_in, is_misdirected, is_uncarried};
-use crate::lines::{BlockProgress, OpenBlock, lines_behind};
+use crate::lines::{BlockProgress, OpenBlock, lines_after};
 use crate::rules::{
     breaks_blocks, is_missent, is_not_allowed, is_unsent, names_none, sent, types_of, values_break,
 };
@@ -21,7 +23,7 @@ use ipdl_base::{Finding, Findings, MessageRow, Place, Rule, Schema};
 use script_reader::{LineReading, Statement};
 use std::alloc::{AllocError, Global};
 
-/// The first column of the line of this number.
+/// Returns the place of the first column of the line with this number.
 fn line_place(line: u32) -> Place
     ensures { result ≡ broken.line_place line }
 {
@@ -61,7 +63,7 @@ fn add_opening(
     add_if(Rule::UNCARRIED_TYPE, place, uncarried, found)
 }
 
-/// Adds the findings of the rules that a statement breaks in this block, if its lines are tested.
+/// Adds the findings of the rules that a statement breaks in this block, if the block's message exists.
 fn add_in_block(
     schema: &Schema,
     block: OpenBlock<'_>,
@@ -90,7 +92,7 @@ fn add_in_block(
     add_if(Rule::UNCARRIED_TYPE, place, carried, found)
 }
 
-/// Adds the findings of the rules that a statement breaks in the block in which it stands.
+/// Adds the findings of the rules that a statement breaks in the block that it is in.
 fn add_inside(
     schema: &Schema,
     block: Option<OpenBlock<'_>>,
@@ -131,7 +133,7 @@ fn add_named(
     add_inside(schema, block, statement, message, after, place, found)
 }
 
-/// Adds the findings of the rules that a statement breaks, and gives what is known behind it.
+/// Adds the findings of the rules that a statement breaks, and returns what is known after it.
 fn add_statement<'a>(
     schema: &Schema,
     messages: &MessageTable<'a>,
@@ -145,8 +147,8 @@ fn add_statement<'a>(
     ensures gains { OnOk result ((before : List StatementType) → Knows schema.now before reached.entry
         → Gains (λ f. (place ≡ f.place) × broken.StatementBreaks schema.now f.rule before statement.now (statements after.now))
         found.old.items found.new.items) }
-    ensures knows { IfOk result (λ behind. (before : List StatementType) → Knows schema.now before reached.entry
-        → Knows schema.now (before ++ statement.now ∷ []) behind) }
+    ensures knows { IfOk result (λ following. (before : List StatementType) → Knows schema.now before reached.entry
+        → Knows schema.now (before ++ statement.now ∷ []) following) }
 {
     let message = messages.message_of(statement);
     let blocks = breaks_blocks(reached, statement, after);
@@ -160,10 +162,10 @@ fn add_statement<'a>(
         place,
         found,
     )?;
-    Ok(reached.behind(statement, context_of(statement, message)))
+    Ok(reached.following(statement, context_of(statement, message)))
 }
 
-/// Adds the findings of the rules that a line breaks, and gives what is known behind it.
+/// Adds the findings of the rules that a line breaks, and returns what is known after it.
 fn add_line<'a>(
     schema: &Schema,
     messages: &MessageTable<'a>,
@@ -176,8 +178,8 @@ fn add_line<'a>(
     requires { IsTableOf schema.now messages.now }
     ensures gains { OnOk result ((before : List StatementType) → Knows schema.now before reached.entry
         → Gains (λ f. (place ≡ f.place) × broken.LineBreaks schema.now f.rule before reading.now (statements after.now)) found.old.items found.new.items) }
-    ensures knows { IfOk result (λ behind. (before : List StatementType) → Knows schema.now before reached.entry
-        → Knows schema.now (before ++ listed (said reading.now)) behind) }
+    ensures knows { IfOk result (λ following. (before : List StatementType) → Knows schema.now before reached.entry
+        → Knows schema.now (before ++ listed (said reading.now)) following) }
 {
     match reading {
         LineReading::Silent => Ok(reached),
@@ -213,13 +215,13 @@ fn add_lines(
     };
     for (i, reading) in readings.iter().enumerate() {
         let place = line_place(i as u32 + 1);
-        let after = lines_behind(readings, i);
+        let after = lines_after(readings, i);
         reached = add_line(schema, messages, reached, reading, after, place, found)?;
     }
     Ok(())
 }
 
-/// Whether the top protocol has a manager.
+/// Returns whether the top protocol has a manager.
 fn has_manager(schema: &Schema, top: u32) -> bool
     ensures { IsTrue result ↔ broken.HasManager schema.now top }
 {
@@ -229,7 +231,8 @@ fn has_manager(schema: &Schema, top: u32) -> bool
     }
 }
 
-/// The report on what lines say, for a schema, the table of its messages and its top protocol.
+/// Returns the report on the readings of all lines, for a schema, the table of its messages and its top
+/// protocol.
 pub fn report_of(
     alloc: Global,
     schema: &Schema,

@@ -1,3 +1,5 @@
+//! The tests of the rules on one statement.
+
 ghost use Rattle.std.specs.Prelude.{◌≡◌, ◌↔◌, false, IsTrue, IsNone, IsSomeAnd, List, option_and_then, option_map};
 ghost use Rattle.ipdl_base.specs.declared.schema.Schema.{Schema as SchemaType};
 ghost use Rattle.script_reader.specs.declared.statement.Statement.{Statement as StatementType};
@@ -11,18 +13,19 @@ use crate::context::{Context, handled_in, side_of};
 use crate::fits::{each_fits, is_actor, param_at};
 use crate::lines::{BlockProgress, answers, is_closed, is_followed, opens};
 use crate::mentions::{ValueQuery, any_mentions, message_of, speaks_of, values_of, who_of};
-use crate::messages::{is_constructor, replies, resolves, sends};
+use crate::messages::{is_constructor, replies, resolves};
 use ipdl_base::{MessageRow, ParamRow, Schema};
 use script_reader::{LineReading, Statement, Who, WrittenValues};
 
-/// Whether a statement names a message, and it is not there.
+/// Returns whether a statement names a message that does not exist.
 pub fn names_none(statement: &Statement, message: Option<&MessageRow>) -> bool
     ensures { IsTrue result ↔ broken.NamesNone (option_map (λ m. m.now) message.entry) statement.now }
 {
     message_of(statement).is_some() && message.is_none()
 }
 
-/// The message that a statement sends, if it names this one.
+/// Returns the message that a statement sends, if it sends one, where `message` is the message that it
+/// names.
 pub fn sent<'a>(statement: &Statement, message: Option<&'a MessageRow>) -> Option<&'a MessageRow>
     ensures { option_map (λ m. m.now) result ≡ broken.sent (option_map (λ m. m.now) message.entry) statement.now }
 {
@@ -32,17 +35,17 @@ pub fn sent<'a>(statement: &Statement, message: Option<&'a MessageRow>) -> Optio
     }
 }
 
-/// Whether a message is sent that the side of the block cannot send.
+/// Returns whether a message is sent that the side of the block cannot send.
 pub fn is_missent(context: Context<'_>, sent: Option<&MessageRow>) -> bool
     ensures { IsTrue result ↔ broken.IsMissent (standing_in context.entry) (option_map (λ m. m.now) sent.entry) }
 {
     match sent {
-        Some(message) => !sends(side_of(context), message.direction),
+        Some(message) => !side_of(context).sends(message.direction),
         None => false,
     }
 }
 
-/// Whether a message is sent that no channel carries.
+/// Returns whether a message is sent that no channel carries.
 pub fn is_unsent(sent: Option<&MessageRow>) -> bool
     ensures { IsTrue result ↔ broken.IsUnsent (option_map (λ m. m.now) sent.entry) }
 {
@@ -52,7 +55,7 @@ pub fn is_unsent(sent: Option<&MessageRow>) -> bool
     }
 }
 
-/// Whether it is a parameter that is no actor, or that is not there.
+/// Returns whether it is a parameter that does not exist or is not an actor.
 fn is_no_actor(given: &[ParamRow], who: &Who) -> bool
     ensures { result ≡ broken.is_no_actor given.now who.now }
 {
@@ -65,21 +68,22 @@ fn is_no_actor(given: &[ParamRow], who: &Who) -> bool
     }
 }
 
-/// The types of what answers the message that a block handles, if it is answered by a resolver.
+/// Returns the types of the values that resolve the message of a block, if a resolver answers it.
 fn resolves_in<'a>(context: Context<'a>) -> Option<&'a [ParamRow]>
     ensures { option_map (λ ps. ps.now) result ≡ option_and_then messages.resolves (blocks.handled_in (standing_in context.entry)) }
 {
     resolves(handled_in(context)?)
 }
 
-/// The types of what the message that a block handles gives back, if it gives anything.
+/// Returns the types of the values that the message of a block gives back, if it is sync and has
+/// returns.
 pub fn replies_in<'a>(context: Context<'a>) -> Option<&'a [ParamRow]>
     ensures { option_map (λ ps. ps.now) result ≡ option_and_then messages.replies (blocks.handled_in (standing_in context.entry)) }
 {
     replies(handled_in(context)?)
 }
 
-/// The types that the values of a statement are to fit, where there are any.
+/// Returns the types that the values of a statement must fit, if there are any.
 pub fn types_of<'a>(
     context: Context<'a>,
     statement: &Statement,
@@ -96,8 +100,8 @@ pub fn types_of<'a>(
     }
 }
 
-/// Whether values do not fit the types, or speak of a parameter that is not there where there are
-/// no types to fit.
+/// Returns whether values do not fit the types or, if there are no types, refer to a parameter that
+/// does not exist.
 fn are_unfit(
     schema: &Schema,
     given: &[ParamRow],
@@ -112,7 +116,7 @@ fn are_unfit(
     }
 }
 
-/// Whether a statement goes to one who is no actor, or its values do not fit these types.
+/// Returns whether a statement is sent to what is not an actor, or its values do not fit these types.
 pub fn values_break(
     schema: &Schema,
     given: &[ParamRow],
@@ -132,7 +136,7 @@ pub fn values_break(
     is_no_actor || are_unfit
 }
 
-/// Whether a message is there, and is not answered by a resolver.
+/// Returns whether a message exists and no resolver answers it.
 fn is_unresolved(message: Option<&MessageRow>) -> bool
     ensures { IsTrue result ↔ IsSomeAnd (option_map (λ m. m.now) message.entry) (λ m. IsNone (messages.resolves m)) }
 {
@@ -142,7 +146,7 @@ fn is_unresolved(message: Option<&MessageRow>) -> bool
     }
 }
 
-/// Whether a message is there, and makes no actor.
+/// Returns whether a message exists and is not a constructor.
 fn is_other_constructor(message: Option<&MessageRow>) -> bool
     ensures { IsTrue result ↔ IsSomeAnd (option_map (λ m. m.now) message.entry) (λ m. messages.is_constructor m.kind ≡ false) }
 {
@@ -152,7 +156,7 @@ fn is_other_constructor(message: Option<&MessageRow>) -> bool
     }
 }
 
-/// Whether a statement stands in a block that does not allow its kind, or not there.
+/// Returns whether a statement is in a block, or at a place in a block, that does not allow its kind.
 fn is_misplaced(
     context: Context<'_>,
     answered: bool,
@@ -171,7 +175,7 @@ fn is_misplaced(
     }
 }
 
-/// Whether a statement is not allowed where it stands.
+/// Returns whether a statement is not allowed where it is.
 pub fn is_not_allowed(
     context: Context<'_>,
     answered: bool,
@@ -186,7 +190,7 @@ pub fn is_not_allowed(
         || is_misplaced(context, answered, statement, message, after)
 }
 
-/// Whether a statement is a second main of its side.
+/// Returns whether a statement is a second main of its side.
 fn is_second_main(reached: BlockProgress<'_>, statement: &Statement) -> bool
     ensures { (schema : SchemaType) (before : List StatementType) → Knows schema before reached.entry
         → IsTrue result ↔ broken.IsSecondMain before statement.now }
@@ -197,7 +201,7 @@ fn is_second_main(reached: BlockProgress<'_>, statement: &Statement) -> bool
     }
 }
 
-/// Whether a statement breaks the structure of blocks.
+/// Returns whether a statement breaks the structure of blocks.
 pub fn breaks_blocks(
     reached: BlockProgress<'_>,
     statement: &Statement,

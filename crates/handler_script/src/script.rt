@@ -1,3 +1,5 @@
+//! A script, its actions by their places, and why a text has no script.
+
 use crate::action::{Action, Blocks, block_at, serves};
 use crate::term::Terms;
 use ipdl_base::{Findings, Side};
@@ -8,7 +10,7 @@ use std::alloc::AllocError;
 pub struct Script {
     /// The number of the top protocol.
     pub top: u32,
-    /// Its blocks, in text order.
+    /// The blocks, in text order.
     pub blocks: Blocks,
 }
 
@@ -17,14 +19,14 @@ impl Script {
     ghost use Rattle.std.specs.Option.{option_map};
     ghost use Rattle.handler_script.specs.ScriptOf.{action_at, reply_at, blocks_for};
 
-    /// The number of the top protocol that the script was read with.
+    /// Returns the number of the top protocol that the script was read with.
     pub fn top(&self) -> u32
         ensures { result ≡ self.now.top }
     {
         self.top
     }
 
-    /// How many blocks a side has for the message of this number.
+    /// Returns how many handlers a side has for the message with this number.
     pub fn blocks(&self, side: Side, number: u32) -> u32
         requires { length self.now.blocks < 2 ^ 32 }
         ensures { result ≡ length (blocks_for self.now side (Some number)) }
@@ -36,8 +38,8 @@ impl Script {
             .count() as u32
     }
 
-    /// The action of a side at a point; nothing past the last action, and where there is no such
-    /// block.
+    /// Returns the action of a side at a point, or `None` if the point is past the last action or the
+    /// block does not exist.
     pub fn action(&self, side: Side, point: Point) -> Option<&Action>
         ensures { option_map (λ a. a.now) result ≡ action_at self.now side point }
     {
@@ -53,7 +55,7 @@ impl Script {
         block.actions.as_slice().get(index as usize)
     }
 
-    /// The values that a block returns, if it has a `return`.
+    /// Returns the values that a block returns, if it has a `return`.
     pub fn reply(&self, side: Side, number: u32, block: u32) -> Option<&Terms>
         ensures { option_map (λ ts. ts.now) result ≡ reply_at self.now side number block }
     {
@@ -63,20 +65,21 @@ impl Script {
     }
 }
 
-/// An action of a script by its place. Blocks and indices count from 0.
+/// The place of an action in a script. Blocks and indices count from 0.
 #[derive(Clone, Copy)]
 pub enum Point {
     /// The action of this index in the main of a side.
     Main(u32),
-    /// The action of this index in a block for the message of this number.
+    /// The action of this index in the handler `block` of the message with this number.
     Handler { number: u32, block: u32, index: u32 },
 }
 
-/// Why there is no script.
+/// Why a text has no script.
 #[derive(Debug, Drop)]
 pub enum ScriptFault {
-    /// These rules are broken, in order. Their places are in file 0.
+    /// The text breaks rules: the findings, in order. Their places are in file 0.
     Broken(Findings),
+    /// Memory ran out.
     NoMemory,
 }
 

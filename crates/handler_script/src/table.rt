@@ -1,3 +1,5 @@
+//! A table of the messages of a schema, by name.
+
 ghost use Rattle.std.specs.Prelude.{◌≡◌, ℕ, List, IfOk, find, option_map};
 ghost use Rattle.std.specs.Str.{bytes_eq};
 ghost use Rattle.ipdl_base.specs.declared.schema.Schema.{Schema as SchemaType};
@@ -10,17 +12,17 @@ use ipdl_base::{MessageRow, Schema, short_name};
 use script_reader::{MessageName, Statement};
 use std::alloc::{AllocError, Global};
 
-/// The messages of a protocol, by their names.
+/// The messages of a protocol, by name.
 type MessageNames<'s> = IndexMap<&'s [u8], &'s MessageRow>;
 
-/// The messages of a schema, by the short names of their protocols and their own. Each is found in a
-/// time that does not grow with the schema.
+/// The messages of a schema, by the short name of the protocol and the name of the message. A look-up
+/// takes a time that does not grow with the schema.
 #[derive(Drop)]
 pub struct MessageTable<'s> {
     protocols: IndexMap<&'s [u8], MessageNames<'s>>,
 }
 
-/// The messages by their names; of those of one name, the first.
+/// Returns the messages by name. If a name occurs twice, the first one is found.
 fn by_names<'s>(alloc: Global, messages: &'s [MessageRow]) -> Result<MessageNames<'s>, AllocError>
     ensures { IfOk result (λ names. (name : List ℕ) → row_at name names ≡ find (λ m. bytes_eq m.name name) messages.now) }
 {
@@ -33,7 +35,8 @@ fn by_names<'s>(alloc: Global, messages: &'s [MessageRow]) -> Result<MessageName
 }
 
 impl<'s> MessageTable<'s> {
-    /// The table of a schema, in time in proportion to it. The only error is want of memory.
+    /// Returns the table of a schema. Takes time in proportion to the schema. Fails only if memory runs
+    /// out.
     pub fn new(alloc: Global, schema: &'s Schema) -> Result<MessageTable<'s>, AllocError>
         ensures { IfOk result (IsTableOf schema.now) }
     {
@@ -47,7 +50,8 @@ impl<'s> MessageTable<'s> {
         Ok(MessageTable { protocols })
     }
 
-    /// The message of this name, where the schema has one; of those of one name, the first.
+    /// Returns the message with this name, if the schema has one. If a name occurs twice, the first one
+    /// is returned.
     pub fn find(&self, name: &MessageName) -> Option<&'s MessageRow>
         ensures { option_map (λ m. m.now) result ≡ found_in self.now name.now }
     {
@@ -55,7 +59,7 @@ impl<'s> MessageTable<'s> {
         messages.get(name.message.as_slice()).copied()
     }
 
-    /// The message that a statement names, where it is there.
+    /// Returns the message that a statement names, if it exists.
     pub(crate) fn message_of(&self, statement: &Statement) -> Option<&'s MessageRow>
         ensures { (schema : SchemaType) → IsTableOf schema self.now → option_map (λ m. m.now) result ≡ named schema statement.now }
     {

@@ -1,3 +1,5 @@
+//! Terms: values that may have parameters and names in them.
+
 ghost use Rattle.std.specs.Prelude.{◌≡◌, IfOk};
 ghost use Rattle.ipdl_base.specs.Plain.{one_box};
 ghost use Rattle.handler_script.specs.declared.term.Terms.{First'};
@@ -8,7 +10,7 @@ use ipdl_base::Name;
 use script_reader::Who;
 use std::alloc::{AllocError, Global};
 
-/// What stands for a value in an action: a value with parameters and names in it.
+/// A value in an action, which may have parameters and names in it.
 #[cycle(term)]
 #[derive(Drop)]
 pub enum Term {
@@ -20,22 +22,22 @@ pub enum Term {
     Bytes(Name),
     /// The bits of a float or a double.
     Bits(u64),
-    /// A struct, by its fields.
+    /// A struct: its fields.
     Struct(Terms),
-    /// A union, by the index of its component.
+    /// A union: the index of its component, and the value.
     Union(u32, Box<Term>),
     Array(Terms),
     /// A maybe or a `UniquePtr`.
     Maybe(Option<Box<Term>>),
     /// An actor, by its id; 0 is null.
     Actor(i32),
-    /// The value of the handled message's parameter with this number, from 1.
+    /// The value of the handled message's parameter with this number, counted from 1.
     Param(u32),
-    /// The actor that this stands for.
+    /// The actor that this refers to.
     Who(Who),
 }
 
-/// A list of terms: nothing, or a first one and the rest.
+/// A list of terms: empty, or a first term and the rest.
 #[cycle(term)]
 #[derive(Drop)]
 pub enum Terms {
@@ -43,7 +45,7 @@ pub enum Terms {
     First(Box<Term>, Box<Terms>),
 }
 
-/// The terms that begin with this one. It is no part of the functions that call themselves, so that
+/// Returns the list with this term before the others. Kept out of the recursive functions, so that
 /// these need little room on the stack.
 #[inline(never)]
 pub fn first_of(alloc: Global, first: Term, rest: Terms) -> Result<Terms, AllocError>
@@ -54,7 +56,7 @@ pub fn first_of(alloc: Global, first: Term, rest: Terms) -> Result<Terms, AllocE
 }
 
 impl Term {
-    /// The same term, up to where its boxes lie. The only error is want of memory.
+    /// Copies the term. The copy is equal up to where its boxes lie. Fails only if memory runs out.
     #[cycle(copy)]
     pub fn copy(&self, alloc: Global) -> Result<Term, AllocError>
         ensures { IfOk result (λ copied. plain_term copied ≡ plain_term self.now) }
@@ -82,7 +84,7 @@ impl Term {
 }
 
 impl Terms {
-    /// The same terms, up to where their boxes lie. The only error is want of memory.
+    /// Copies the terms. The copy is equal up to where their boxes lie. Fails only if memory runs out.
     #[cycle(copy)]
     pub fn copy(&self, alloc: Global) -> Result<Terms, AllocError>
         ensures { IfOk result (λ copied. plain_terms copied ≡ plain_terms self.now) }

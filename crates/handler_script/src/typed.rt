@@ -1,3 +1,5 @@
+//! Makes terms from written values, by their types.
+
 ghost use Rattle.std.specs.Prelude.{◌≡◌, ◌≤◌, length, IfOk};
 ghost use Rattle.handler_script.specs.Plain.{plain_term, plain_terms};
 ghost use Rattle.handler_script.specs.Terms as terms;
@@ -9,7 +11,7 @@ use script_reader::{Atom, Who, WrittenValue, WrittenValues};
 use std::alloc::{AllocError, Global};
 use value_types::{builtin_of, component_of, element_of, fields_of, held_by};
 
-/// Bytes as one number, the highest first.
+/// Returns the number that bytes spell, the highest first.
 fn number_of(bytes: &[u8]) -> u64
     requires { length bytes.now ≤ 8 }
     ensures { result ≡ terms.number_of bytes.now }
@@ -21,7 +23,7 @@ fn number_of(bytes: &[u8]) -> u64
     n
 }
 
-/// The term of hexadecimal bytes: the bits of a float or a double, and else bytes.
+/// Returns the term of hexadecimal bytes: the bits of a float or double, or else bytes.
 fn bytes_term(alloc: Global, shape: &Shape, bytes: &Name) -> Result<Term, AllocError>
     ensures { IfOk result (λ t. t ≡ terms.bytes_term (shapes.builtin_of shape.now) bytes.now) }
 {
@@ -32,7 +34,7 @@ fn bytes_term(alloc: Global, shape: &Shape, bytes: &Name) -> Result<Term, AllocE
     }
 }
 
-/// The same who.
+/// Copies the value.
 pub fn copy_who(alloc: Global, who: &Who) -> Result<Who, AllocError>
     ensures { IfOk result (λ w. w ≡ who.now) }
 {
@@ -45,7 +47,7 @@ pub fn copy_who(alloc: Global, who: &Who) -> Result<Who, AllocError>
     }
 }
 
-/// The term of one who is spoken of.
+/// Returns the term of an actor or parameter that a value refers to.
 fn who_term(alloc: Global, who: &Who) -> Result<Term, AllocError>
     ensures { IfOk result (λ t. t ≡ terms.who_term who.now) }
 {
@@ -55,7 +57,7 @@ fn who_term(alloc: Global, who: &Who) -> Result<Term, AllocError>
     }
 }
 
-/// The term of a value of one token.
+/// Returns the term of a value of one token.
 fn atom_term(alloc: Global, shape: &Shape, atom: &Atom) -> Result<Term, AllocError>
     ensures { IfOk result (λ t. t ≡ terms.atom_term shape.now atom.now) }
 {
@@ -70,7 +72,7 @@ fn atom_term(alloc: Global, shape: &Shape, atom: &Atom) -> Result<Term, AllocErr
     }
 }
 
-/// The term that a written value stands for in a type.
+/// Returns the term of a written value in a type.
 #[cycle(typed)]
 fn term_of(
     value: &WrittenValue,
@@ -103,7 +105,7 @@ fn term_of(
     }
 }
 
-/// The terms of values of one type.
+/// Returns the terms of values of one type.
 #[cycle(typed)]
 fn elements_of(
     values: &WrittenValues,
@@ -123,7 +125,7 @@ fn elements_of(
     }
 }
 
-/// The terms of values of the types of fields or parameters.
+/// Returns the terms of values, one for each field or parameter.
 #[cycle(typed)]
 pub fn terms_of(
     values: &WrittenValues,

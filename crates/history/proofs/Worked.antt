@@ -81,7 +81,7 @@ both_call : transcript_text schema (
 unfolding digits
 both_call = refl
 
--- Actors: one is built, one is given, one is missing, and a tree of them falls.
+-- Actors: one is built, one is sent as a value, one is missing, and a tree of them falls.
 actors : transcript_text schema (
     child (what.Send (negsuc 0) top 4 (one (negsuc 6)))
     ∷ child (what.Built (pos 4) 1)
@@ -98,7 +98,7 @@ actors : transcript_text schema (
 unfolding digits
 actors = refl
 
--- Promises: a number stands for the message that its last line gives it; what closes settles the rest.
+-- Promises: a number has the message that its last line gives it; closing settles the rest.
 promises : transcript_text schema (
     child (what.Send (negsuc 0) (pos 4) 65536 Nothing)
     ∷ parent (what.Take (negsuc 0) (pos 4) 65536 Nothing)

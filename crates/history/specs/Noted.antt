@@ -1,4 +1,4 @@
--- What the writer of transcripts knows of numbers, behind some lines.
+-- What the writer of transcripts knows of numbers after some lines.
 use Rattle.std.specs.Prelude.{◌≡◌, ℕ, ℤ, if◌then◌else◌, List, Option, Some}
 use Rattle.std.specs.HashMap.{get}
 use Rattle.std.specs.Ordering.{int_eq}
@@ -14,7 +14,7 @@ abbrev pub noted_at : Messages → Side → ℤ → Option ℕ
 noted_at messages side.Parent n = get int_eq messages.parent n
 noted_at messages side.Child n = get int_eq messages.child n
 
--- the new one has this message for the number at the end, and else what the old one has
+-- the new map has this message for the number at the end, and otherwise what the old map has
 abbrev pub Gives : Messages → Messages → Side → ℤ → ℕ → Type 0
 Gives old new end number message =
     (other : Side) (n : ℤ) → noted_at new other n ≡ (if same_side end other then (if int_eq number n then Some message else noted_at old other n) else noted_at old other n)

@@ -18,7 +18,7 @@ use Rattle.ipdl_base.specs.declared.line.What.TheVariants as what
 use Rattle.history.specs.Messages.{message_of_number}
 use Rattle.history.specs.Words.{side_word, refusal_word, reason_word, destroy_word}
 
--- the short name of a protocol by its number; nothing where there is none
+-- the short name of a protocol by its number, or nothing if there is no such protocol
 abbrev pub protocol_text : Schema → ℕ → List ℕ
 protocol_text schema number = option_map_or (λ protocol. short_name protocol.name) (slice_get schema.protocols number) []
 
@@ -26,12 +26,12 @@ protocol_text schema number = option_map_or (λ protocol. short_name protocol.na
 abbrev pub message_text : Schema → ℕ → List ℕ
 message_text schema number = protocol_text schema (number / 65536) ++ codes "." ++ option_map_or (λ message. message.name) (message_of schema number) []
 
--- the returns of a message that is named, and none where none is
+-- the returns of the message that is given, or an empty list if no message is given
 abbrev pub returns_named : Schema → Option ℕ → List ParamRow
 returns_named schema None = []
 returns_named schema (Some number) = returns_of schema number
 
--- values between brackets, by their types
+-- values in parentheses, by their types
 abbrev pub listed_values : Schema → List ParamRow → Values → List ℕ
 listed_values schema types values = codes "(" ++ values_text schema types values ++ codes ")"
 
@@ -39,7 +39,7 @@ listed_values schema types values = codes "(" ++ values_text schema types values
 abbrev pub request_text : Schema → ℕ → Values → List ℕ
 request_text schema number values = message_text schema number ++ listed_values schema (params_of schema number) values
 
--- a number behind a text
+-- a text, followed by a number
 abbrev pub numbered : List ℕ → ℤ → List ℕ
 numbered before n = before ++ signed_decimal n
 
@@ -68,11 +68,12 @@ refused_text cause act = codes "refused " ++ refusal_word cause ++ act
 abbrev pub refused_send_text : Schema → SendRefusal → ℕ → List ℕ
 refused_send_text schema cause message = refused_text cause (codes " ") ++ message_text schema message
 
--- a word with a number, and what stands behind it
+-- a word with a number, followed by two more texts
 abbrev pub tailed : List ℕ → ℤ → List ℕ → List ℕ → List ℕ
 tailed word n between tail = numbered word n ++ between ++ tail
 
--- What a line says, but for the end at its begin. `types` has the returns of the message of a number at this end.
+-- The content of a line, except for the end at its beginning. `types` has the returns of the message of a number at
+-- this end.
 abbrev pub what_text : Schema → (ℤ → List ParamRow) → What → List ℕ
 what_text schema types (what.Send n route message values) = send_text schema n route message values
 what_text schema types (what.Call n transaction route message values) = call_text schema n transaction route message values
@@ -108,7 +109,7 @@ what_text schema types (what.Resolved n values) = tailed (codes "settle ") n (co
 what_text schema types (what.Rejected n reason) = tailed (codes "settle ") n (codes " rejected ") (reason_word reason)
 what_text schema types (what.Fall id destroy) = tailed (codes "fall ") id (codes " ") (destroy_word destroy)
 
--- how a line begins: an event with its end, and an effect with two blanks
+-- the beginning of a line: the end for an event, two blanks for an effect
 abbrev pub line_begin : Line → List ℕ
 line_begin line = if is_effect line.what then codes "  " else side_word line.side ++ codes " "
 
@@ -116,11 +117,11 @@ line_begin line = if is_effect line.what then codes "  " else side_word line.sid
 abbrev pub line_saying : Schema → (ℤ → List ParamRow) → Line → List ℕ
 line_saying schema types line = line_begin line ++ what_text schema types line.what ++ codes "\n"
 
--- the text of a line behind others
+-- the text of a line after others
 abbrev pub line_text : Schema → List Line → Line → List ℕ
 line_text schema before line = line_saying schema (λ n. returns_named schema (message_of_number line.side before n)) line
 
--- the text of lines behind others
+-- the text of lines after others
 abbrev pub lines_text : Schema → List Line → List Line → List ℕ
 lines_text schema before [] = []
 lines_text schema before (line ∷ rest) = line_text schema before line ++ lines_text schema (before ++ line ∷ []) rest

@@ -14,7 +14,7 @@ abbrev pub side_word : Side → List ℕ
 side_word side.Parent = codes "parent"
 side_word side.Child = codes "child"
 
--- the word of the cause by which a send is refused
+-- the word of the cause for which a send is refused
 abbrev pub refusal_word : SendRefusal → List ℕ
 refusal_word refusal.Closed = codes "Closed"
 refusal_word refusal.DeadActor = codes "DeadActor"

@@ -4,7 +4,7 @@ use Rattle.ipdl_base.specs.declared.line.Line.{Line}
 use Rattle.history.specs.declared.line_writer.LineWriter.{LineWriter}
 use Rattle.history.specs.Noted.{Knows}
 
--- it has written these lines, and no others: it knows the messages that they give to numbers
+-- the writer has written exactly these lines: it knows the messages that they give to numbers
 abbrev pub HasWritten : List Line → LineWriter → Type 0
 HasWritten lines writer = Knows lines writer.messages
 

@@ -1,11 +1,13 @@
+//! The lines of a run.
 ghost use Rattle.std.specs.Prelude.{◌≡◌, ◌+◌, ◌<◌, ◌≤◌, [], ◌∷◌, ◌++◌, OnOk, OnErr, IsOk};
 
 use ipdl_base::Line;
 use std::alloc::{AllocError, Global};
 use std::marker::Model;
 
-/// The lines of a run in their order, which contracts see as a list, oldest first, and a number:
-/// how many more lines there is room for (docs/transcripts.md).
+/// The lines of a run in their order. Contracts see them as a list, oldest first, with the number of further
+/// lines that
+/// there is room for (docs/transcripts.md).
 #[derive(Drop)]
 pub struct History {
     lines: Vec<Line>,
@@ -25,7 +27,7 @@ impl Model for History {
 }
 
 impl History {
-    /// No lines. Takes no memory; what it needs later it takes from `alloc`.
+    /// Creates a history without lines. Takes no memory yet; later calls take it from `alloc`.
     pub fn new(alloc: Global) -> History
         ensures { result.lines ≡ [] }
     {
@@ -34,8 +36,8 @@ impl History {
         }
     }
 
-    /// Makes room for `n` more lines. The only error is want of memory, which does not come where
-    /// there is that room; there is never less room after it.
+    /// Makes room for `n` more lines. Fails only if memory runs out, and never if there is that room already.
+    /// The room never gets smaller.
     pub fn reserve(&mut self, n: usize) -> Result<(), AllocError>
         ensures lines { self.new.lines ≡ self.old.lines }
         ensures ok { OnOk result (n ≤ self.new.spare) }
@@ -45,7 +47,7 @@ impl History {
         self.lines.reserve(n)
     }
 
-    /// Puts a line last. Want of memory changes nothing; where there is room it does not come.
+    /// Appends a line. If memory runs out, nothing changes; if there is room, the call does not fail.
     pub fn push(&mut self, line: Line) -> Result<(), AllocError>
         ensures lines { OnOk result (self.new.lines ≡ self.old.lines ++ line ∷ []) }
         ensures unchanged { OnErr result (self.new ≡ self.old) }
@@ -57,7 +59,7 @@ impl History {
         Ok(())
     }
 
-    /// The lines, oldest first. Takes no memory.
+    /// Returns the lines, oldest first. Takes no memory.
     pub fn lines(&self) -> &[Line]
         ensures { result.now ≡ self.now.lines }
     {

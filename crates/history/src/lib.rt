@@ -1,5 +1,5 @@
-//! The history of a channel: a line for each event of an end and for each of its effects, and the
-//! text that a transcript prints of them.
+//! The history of a channel: a line for each event of an end and for each of its effects, and the text that a
+//! transcript prints of them.
 #![tactic(auto)]
 
 mod history;

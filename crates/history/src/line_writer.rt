@@ -1,3 +1,4 @@
+//! Writes the lines of a history one at a time.
 ghost use Rattle.std.specs.Prelude.{◌≡◌, ◌∷◌, ◌++◌, [], List, OnOk};
 ghost use Rattle.ipdl_base.specs.Sound.{IsSound};
 ghost use Rattle.history.specs.Text as text;
@@ -8,8 +9,8 @@ use crate::text::push_line;
 use ipdl_base::{Line, Schema};
 use std::alloc::{AllocError, Global};
 
-/// Writes the lines of a history one by one (docs/transcripts.md). It keeps the text of the newest
-/// line alone, and the messages of the numbers of requests.
+/// Writes the lines of a history one at a time (docs/transcripts.md). Keeps only the text of the newest line,
+/// and the messages of the numbers of requests.
 #[derive(Drop)]
 pub struct LineWriter {
     messages: Messages,
@@ -17,7 +18,7 @@ pub struct LineWriter {
 }
 
 impl LineWriter {
-    /// A writer that has written no line. It takes no memory.
+    /// Creates a writer that has written no line. Takes no memory.
     pub fn new(alloc: Global) -> LineWriter
         ensures { HasWritten [] result }
     {
@@ -27,8 +28,8 @@ impl LineWriter {
         }
     }
 
-    /// Writes the next line in place of the newest. The only error is want of memory, and then
-    /// nothing is known of the text.
+    /// Writes the next line in place of the newest. Fails only if memory runs out, and then the text is
+    /// unspecified.
     pub fn write(&mut self, schema: &Schema, line: &Line) -> Result<(), AllocError>
         requires { IsSound schema.now }
         ensures written { OnOk result ((lines : List Line) → HasWritten lines self.old → HasWritten (lines ++ line.now ∷ []) self.new) }
@@ -39,7 +40,7 @@ impl LineWriter {
         self.messages.note(line)
     }
 
-    /// The text of the newest line, with its line feed. It takes no memory.
+    /// Returns the text of the newest line, with its line feed. Takes no memory.
     pub fn newest(&self) -> &[u8]
         ensures { result.now ≡ newest_text self.now }
     {

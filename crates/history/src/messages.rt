@@ -1,3 +1,4 @@
+//! The messages of the numbers of requests, by the lines so far.
 ghost use Rattle.std.specs.Prelude.{◌≡◌, ◌∷◌, ◌++◌, [], List, OnOk};
 ghost use Rattle.std.specs.HashMap.{get};
 ghost use Rattle.std.specs.Ordering.{int_eq};
@@ -8,7 +9,7 @@ use indexmap::IndexMap;
 use ipdl_base::{Line, Side, What};
 use std::alloc::{AllocError, Global};
 
-/// The messages of the numbers of requests at either end, as the lines so far give them.
+/// The messages of the numbers of requests at each end, as the lines so far give them.
 #[derive(Drop)]
 pub struct Messages {
     parent: IndexMap<i32, u32>,
@@ -16,7 +17,7 @@ pub struct Messages {
 }
 
 impl Messages {
-    /// No numbers, as no lines give them.
+    /// Creates an empty map, which agrees with no lines.
     pub fn new(alloc: Global) -> Messages
         ensures { Knows [] result }
     {
@@ -26,7 +27,7 @@ impl Messages {
         }
     }
 
-    /// The message of a number at an end.
+    /// Returns the message of a number at an end, or `None` if no line has given it one.
     pub fn find(&self, side: Side, number: i32) -> Option<u32>
         ensures { result ≡ noted_at self.now side number }
     {
@@ -36,7 +37,7 @@ impl Messages {
         }
     }
 
-    /// Gives a number at an end its message.
+    /// Records the message of a number at an end.
     fn give(&mut self, side: Side, number: i32, message: u32) -> Result<(), AllocError>
         ensures { OnOk result (Gives self.old self.new side number message) }
     {
@@ -51,7 +52,7 @@ impl Messages {
         Ok(())
     }
 
-    /// Notes what a line says behind those so far.
+    /// Records what the next line gives.
     pub fn note(&mut self, line: &Line) -> Result<(), AllocError>
         ensures { OnOk result ((lines : List Line) → Knows lines self.old → Knows (lines ++ line.now ∷ []) self.new) }
     {
@@ -62,7 +63,7 @@ impl Messages {
     }
 }
 
-/// The number of a request that a line gives a message, and that message.
+/// Returns the number of a request and its message, if a line gives them.
 fn given(what: &What) -> Option<(i32, u32)>
     ensures { result ≡ given what.now }
 {

@@ -1,3 +1,4 @@
+//! The text of a history, as transcripts print it.
 ghost use Rattle.std.specs.Prelude.{◌≡◌, ◌++◌, ◌/◌, [], IfOk, OnOk, codes};
 ghost use Rattle.std.specs.Fmt.{decimal};
 ghost use Rattle.std.specs.Option.{option_map_or};
@@ -15,7 +16,7 @@ use ipdl_base::{
 use std::alloc::{AllocError, Global};
 use value_types::{push_decimal, push_values};
 
-/// The short name of a protocol, or nothing where there is none of this number.
+/// Returns the short name of a protocol, or nothing if there is no protocol of this number.
 fn protocol_name(schema: &Schema, number: u32) -> &[u8]
     requires { IsSound schema.now }
     ensures { result.now ≡ text.protocol_text schema.now number }
@@ -26,7 +27,7 @@ fn protocol_name(schema: &Schema, number: u32) -> &[u8]
     }
 }
 
-/// The name of a message by the number of its request, or nothing where there is none.
+/// Returns the name of a message by the number of its request, or nothing if there is none.
 fn message_name(schema: &Schema, number: u32) -> &[u8]
     requires { IsSound schema.now }
     ensures { result.now ≡ option_map_or (λ message. message.name) (message_of schema.now number) [] }
@@ -37,7 +38,7 @@ fn message_name(schema: &Schema, number: u32) -> &[u8]
     }
 }
 
-/// The returns of a message that is named, or none where none is.
+/// Returns the returns of the message that is given, or an empty list if no message is given.
 fn returns_named(schema: &Schema, named: Option<u32>) -> &[ParamRow]
     requires { IsSound schema.now }
     ensures { result.now ≡ text.returns_named schema.now named }
@@ -48,7 +49,7 @@ fn returns_named(schema: &Schema, named: Option<u32>) -> &[ParamRow]
     }
 }
 
-/// Appends a text and a number behind it, in decimal digits.
+/// Appends a text and then a number in decimal digits.
 pub fn push_numbered(out: &mut Vec<u8>, before: &[u8], number: i32) -> Result<(), AllocError>
     ensures { OnOk result (out.new.items ≡ out.old.items ++ text.numbered before.now number) }
 {
@@ -67,7 +68,7 @@ pub fn push_message(out: &mut Vec<u8>, schema: &Schema, number: u32) -> Result<(
     out.extend_from_slice(message_name(schema, number))
 }
 
-/// Appends values between brackets, by their types (docs/values.md).
+/// Appends values in parentheses, by their types (docs/values.md).
 pub fn push_listed(
     out: &mut Vec<u8>,
     schema: &Schema,
@@ -110,7 +111,7 @@ fn push_routed(
     push_numbered(out, between, route)
 }
 
-/// Appends what a line says that has a number and an end of its own.
+/// Appends a word, a number, and two more texts.
 fn push_tailed(
     out: &mut Vec<u8>,
     word: &[u8],
@@ -125,7 +126,7 @@ fn push_tailed(
     out.extend_from_slice(tail)
 }
 
-/// Appends what a line says that has a number and values of returns.
+/// Appends a word, a number, a text, and values of returns.
 fn push_returned(
     out: &mut Vec<u8>,
     schema: &Schema,
@@ -200,7 +201,7 @@ fn push_call(
     push_request(out, schema, message, values)
 }
 
-/// Appends a request that is handled.
+/// Appends the line of a request that is handled.
 fn push_take(
     out: &mut Vec<u8>,
     schema: &Schema,
@@ -225,7 +226,7 @@ fn push_blank_message(out: &mut Vec<u8>, schema: &Schema, number: u32) -> Result
     push_message(out, schema, number)
 }
 
-/// Appends a request that is dropped.
+/// Appends the line of a request that is dropped.
 fn push_drop(
     out: &mut Vec<u8>,
     schema: &Schema,
@@ -242,7 +243,7 @@ fn push_drop(
     push_numbered(out, b" for ", id)
 }
 
-/// Appends that a name holds an actor.
+/// Appends the line that gives a name to an actor.
 fn push_let(out: &mut Vec<u8>, name: &[u8], id: i32) -> Result<(), AllocError>
     ensures { OnOk result (out.new.items ≡ out.old.items ++ (codes "let " ++ name.now ++ text.numbered (codes " ") id)) }
 {
@@ -251,7 +252,7 @@ fn push_let(out: &mut Vec<u8>, name: &[u8], id: i32) -> Result<(), AllocError>
     push_numbered(out, b" ", id)
 }
 
-/// Appends how many packets leave the outbox.
+/// Appends the number of packets that leave the outbox.
 fn push_flush(out: &mut Vec<u8>, count: u32) -> Result<(), AllocError>
     ensures { OnOk result (out.new.items ≡ out.old.items ++ (codes "flush " ++ decimal count)) }
 {
@@ -259,7 +260,7 @@ fn push_flush(out: &mut Vec<u8>, count: u32) -> Result<(), AllocError>
     push_decimal(out, count)
 }
 
-/// The returns of the message of a number at an end.
+/// Returns the returns of the message of a number at an end.
 fn returns_at<'s>(
     schema: &'s Schema,
     messages: &Messages,
@@ -272,7 +273,7 @@ fn returns_at<'s>(
     returns_named(schema, messages.find(side, number))
 }
 
-/// Appends what a line says behind its begin.
+/// Appends the content of a line, after its beginning.
 fn push_what(
     out: &mut Vec<u8>,
     schema: &Schema,
@@ -348,7 +349,7 @@ fn push_what(
     }
 }
 
-/// Appends how a line begins.
+/// Appends the beginning of a line.
 fn push_begin(out: &mut Vec<u8>, line: &Line) -> Result<(), AllocError>
     ensures { OnOk result (out.new.items ≡ out.old.items ++ text.line_begin line.now) }
 {
@@ -376,7 +377,7 @@ pub(crate) fn push_line(
     out.extend_from_slice(b"\n")
 }
 
-/// Appends lines where nothing is noted yet.
+/// Appends lines, starting with empty `messages`.
 fn push_lines(
     out: &mut Vec<u8>,
     schema: &Schema,
@@ -394,8 +395,8 @@ fn push_lines(
     Ok(())
 }
 
-/// The text that a transcript prints of a history, a line for each of its lines
-/// (docs/transcripts.md). Its time goes with the text's length.
+/// Returns the text that a transcript prints of a history, a line for each of its lines
+/// (docs/transcripts.md). The time is in proportion to the length of the text. Fails only if memory runs out.
 pub fn history_text(
     alloc: Global,
     schema: &Schema,

@@ -1,9 +1,10 @@
+//! The words of a transcript.
 ghost use Rattle.std.specs.Prelude.{◌≡◌};
 ghost use Rattle.history.specs.Words as word;
 
 use ipdl_base::{Destroy, Reason, SendRefusal, Side};
 
-/// The word of an end.
+/// Returns the word of an end.
 pub fn side_word(side: Side) -> &'static [u8]
     ensures { result.now ≡ word.side_word side }
 {
@@ -13,7 +14,7 @@ pub fn side_word(side: Side) -> &'static [u8]
     }
 }
 
-/// The word of the cause by which a send is refused.
+/// Returns the word of the cause for which a send is refused.
 pub fn refusal_word(refusal: SendRefusal) -> &'static [u8]
     ensures { result.now ≡ word.refusal_word refusal }
 {
@@ -30,7 +31,7 @@ pub fn refusal_word(refusal: SendRefusal) -> &'static [u8]
     }
 }
 
-/// The word of a fault.
+/// Returns the word of a fault.
 pub fn reason_word(reason: Reason) -> &'static [u8]
     ensures { result.now ≡ word.reason_word reason }
 {
@@ -42,7 +43,7 @@ pub fn reason_word(reason: Reason) -> &'static [u8]
     }
 }
 
-/// The word of the reason why an actor falls.
+/// Returns the word of the reason why an actor falls.
 pub fn destroy_word(destroy: Destroy) -> &'static [u8]
     ensures { result.now ≡ word.destroy_word destroy }
 {

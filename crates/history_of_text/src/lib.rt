@@ -1,6 +1,6 @@
-//! The lines, values and messages that the text of a transcript spells, and schemas of worked
-//! protocols. It is for tests: the crates of tests above it write what they want as text, and none of
-//! the product stands on it.
+//! Reads lines, values and messages from the text of a transcript, and gives the schemas of worked protocols.
+//! For tests
+//! only: crates of tests write what they expect as text, and the program does not use this crate.
 #![tactic(auto)]
 
 mod lists;

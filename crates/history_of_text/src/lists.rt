@@ -1,3 +1,4 @@
+//! Reads lines, values and messages from the text of a transcript.
 use history::{History, Line, What};
 use ipdl_base::{Destroy, Name, Reason, Schema, SendRefusal, Side, Value, Values};
 use std::alloc::Global;
@@ -9,7 +10,7 @@ struct Reader<'t> {
     rest: &'t [u8],
 }
 
-/// How deep values may nest, where a list is as deep as it is long.
+/// The greatest depth to which values may nest, where a list is as deep as it is long.
 const DEPTH: u8 = 250;
 
 /// The causes of refusals, by their words.
@@ -25,25 +26,25 @@ const CAUSES: &[(&[u8], SendRefusal)] = &[
     (b"DeadValue", SendRefusal::DeadValue),
 ];
 
-/// Whether a byte may stand in a word or a number.
+/// Returns whether a byte may be part of a word or a number.
 fn is_word_byte(byte: u8) -> bool {
     byte.is_ascii_alphanumeric() || byte == b'_' || byte == b'-'
 }
 
-/// A name of bytes.
+/// Returns a name of these bytes, or `None` if memory runs out.
 fn name_of(alloc: Global, bytes: &[u8]) -> Option<Name> {
     Name::from_slice(alloc, bytes).ok()
 }
 
 impl<'t> Reader<'t> {
-    /// Passes so many bytes, and gives them.
+    /// Passes `count` bytes and returns them.
     fn pass(&mut self, count: usize) -> &'t [u8] {
         let rest = self.rest;
         self.rest = rest.get(count..).unwrap_or(&[]);
         rest.get(..count).unwrap_or(&[])
     }
 
-    /// Whether these bytes come next; they are passed then.
+    /// Returns whether these bytes come next, and passes them if so.
     fn eat(&mut self, word: &[u8]) -> bool {
         let comes = self.rest.get(..word.len()) == Some(word);
         if comes {
@@ -52,12 +53,12 @@ impl<'t> Reader<'t> {
         comes
     }
 
-    /// Passes these bytes, which come next.
+    /// Passes these bytes if they come next, and returns `None` otherwise.
     fn expect(&mut self, word: &[u8]) -> Option<()> {
         if self.eat(word) { Some(()) } else { None }
     }
 
-    /// The word or number that comes next.
+    /// Reads the word or number that comes next.
     fn word(&mut self) -> &'t [u8] {
         let end = self.rest.iter().position(|byte| !is_word_byte(*byte));
         match end {
@@ -66,7 +67,7 @@ impl<'t> Reader<'t> {
         }
     }
 
-    /// The bytes before the next quote.
+    /// Reads the bytes before the next quote.
     fn quoted(&mut self) -> &'t [u8] {
         match self.rest.iter().position(|byte| *byte == b'"') {
             Some(end) => self.pass(end),
@@ -74,13 +75,13 @@ impl<'t> Reader<'t> {
         }
     }
 
-    /// The number that comes next.
+    /// Reads the number that comes next.
     fn number(&mut self) -> Option<i32> {
         let word = self.word();
         str::from_utf8(word).ok()?.parse::<i32>().ok()
     }
 
-    /// The message that comes next, as `P.M`.
+    /// Reads the message that comes next, as `P.M`.
     fn message(&mut self, schema: &Schema) -> Option<u32> {
         let protocol_name = self.word();
         self.expect(b".")?;
@@ -97,7 +98,7 @@ impl<'t> Reader<'t> {
         None
     }
 
-    /// The protocol that comes next.
+    /// Reads the protocol that comes next.
     fn protocol(&mut self, schema: &Schema) -> Option<u32> {
         let name = self.word();
         for (number, protocol) in schema.protocols.as_slice().iter().enumerate() {
@@ -108,7 +109,7 @@ impl<'t> Reader<'t> {
         None
     }
 
-    /// The reason that comes next.
+    /// Reads the reason that comes next.
     fn reason(&mut self) -> Option<Reason> {
         if self.eat(b"ChannelClosed") {
             Some(Reason::ChannelClosed)
@@ -122,7 +123,7 @@ impl<'t> Reader<'t> {
         }
     }
 
-    /// The reason of a fall that comes next.
+    /// Reads the reason of a fall that comes next.
     fn destroy(&mut self) -> Option<Destroy> {
         if self.eat(b"Deletion") {
             Some(Destroy::Deletion)
@@ -136,14 +137,14 @@ impl<'t> Reader<'t> {
         }
     }
 
-    /// The cause of a refusal that comes next.
+    /// Reads the cause of a refusal that comes next.
     fn refusal(&mut self) -> Option<SendRefusal> {
         let word = self.word();
         let (_, cause) = CAUSES.iter().find(|(name, _)| *name == word)?;
         Some(*cause)
     }
 
-    /// The value that comes next, read without its type.
+    /// Reads the value that comes next, without its type.
     #[cycle(values)]
     fn value(&mut self, alloc: Global, depth: u8) -> Option<Value> {
         if depth == 0 {
@@ -180,7 +181,7 @@ impl<'t> Reader<'t> {
         }
     }
 
-    /// The values before an end.
+    /// Reads the values before `end`.
     #[cycle(values)]
     fn values(&mut self, alloc: Global, end: &[u8], depth: u8) -> Option<Values> {
         if depth == 0 {
@@ -195,13 +196,13 @@ impl<'t> Reader<'t> {
         Some(Values::First(Box::new(alloc, first).ok()?, Box::new(alloc, rest).ok()?))
     }
 
-    /// Values between brackets.
+    /// Reads values in parentheses.
     fn listed(&mut self, alloc: Global) -> Option<Values> {
         self.expect(b"(")?;
         self.values(alloc, b")", DEPTH)
     }
 
-    /// What a line of a send says.
+    /// Reads the rest of a send.
     fn send(&mut self, alloc: Global, schema: &Schema) -> Option<What> {
         let n = self.number()?;
         self.expect(b" to ")?;
@@ -211,7 +212,7 @@ impl<'t> Reader<'t> {
         Some(What::Send(n, route, message, self.listed(alloc)?))
     }
 
-    /// What a line of a call says.
+    /// Reads the rest of a call.
     fn call(&mut self, alloc: Global, schema: &Schema) -> Option<What> {
         let n = self.number()?;
         self.expect(b"/")?;
@@ -223,7 +224,7 @@ impl<'t> Reader<'t> {
         Some(What::Call(n, transaction, route, message, self.listed(alloc)?))
     }
 
-    /// What a line of a take says.
+    /// Reads the rest of a take.
     fn take(&mut self, alloc: Global, schema: &Schema) -> Option<What> {
         let n = self.number()?;
         self.expect(b" at ")?;
@@ -233,7 +234,7 @@ impl<'t> Reader<'t> {
         Some(What::Take(n, route, message, self.listed(alloc)?))
     }
 
-    /// What a line of a drop says.
+    /// Reads the rest of a drop.
     fn dropped(&mut self, schema: &Schema) -> Option<What> {
         let n = self.number()?;
         self.expect(b" at ")?;
@@ -244,7 +245,7 @@ impl<'t> Reader<'t> {
         Some(What::Drop(n, route, message, self.number()?))
     }
 
-    /// What a line of a refusal says.
+    /// Reads the rest of a refusal.
     fn refused(&mut self, schema: &Schema) -> Option<What> {
         let cause = self.refusal()?;
         self.expect(b" ")?;
@@ -259,7 +260,7 @@ impl<'t> Reader<'t> {
         }
     }
 
-    /// What a line of a call that goes on says.
+    /// Reads the rest of a call that continues.
     fn resume(&mut self, alloc: Global) -> Option<What> {
         let n = self.number()?;
         if self.eat(b" ok ") {
@@ -270,28 +271,28 @@ impl<'t> Reader<'t> {
         }
     }
 
-    /// What a line of a resolve says.
+    /// Reads the rest of a resolve.
     fn resolve(&mut self, alloc: Global) -> Option<What> {
         let n = self.number()?;
         self.expect(b" ")?;
         Some(What::Resolve(n, self.listed(alloc)?))
     }
 
-    /// What a line of a name says.
+    /// Reads the rest of a resolver that is kept.
     fn keep(&mut self, alloc: Global) -> Option<What> {
         let n = self.number()?;
         self.expect(b" ")?;
         Some(What::Keep(n, name_of(alloc, self.word())?))
     }
 
-    /// What a line of another name says.
+    /// Reads the rest of an actor that is named.
     fn named(&mut self, alloc: Global) -> Option<What> {
         let name = name_of(alloc, self.word())?;
         self.expect(b" ")?;
         Some(What::Let(name, self.number()?))
     }
 
-    /// What a line of a delivery or a shutting says.
+    /// Reads a delivery or a shutting.
     fn arrival(&mut self) -> Option<What> {
         if self.eat(b"deliver request ") {
             Some(What::DeliverRequest(self.number()?))
@@ -309,7 +310,7 @@ impl<'t> Reader<'t> {
         }
     }
 
-    /// What the line of an event says.
+    /// Reads an event.
     fn event(&mut self, alloc: Global, schema: &Schema) -> Option<What> {
         if self.eat(b"send ") {
             self.send(alloc, schema)
@@ -346,7 +347,7 @@ impl<'t> Reader<'t> {
         }
     }
 
-    /// What the line of an answer says.
+    /// Reads the rest of an answer.
     fn answer(&mut self, alloc: Global) -> Option<What> {
         let n = self.number()?;
         if self.eat(b" ok ") {
@@ -357,7 +358,7 @@ impl<'t> Reader<'t> {
         }
     }
 
-    /// What the line of a settling says.
+    /// Reads the rest of a settling.
     fn settle(&mut self, alloc: Global) -> Option<What> {
         let n = self.number()?;
         if self.eat(b" resolved ") {
@@ -368,7 +369,7 @@ impl<'t> Reader<'t> {
         }
     }
 
-    /// What the line of an effect says.
+    /// Reads an effect.
     fn effect(&mut self, alloc: Global, schema: &Schema) -> Option<What> {
         if self.eat(b"built ") {
             let id = self.number()?;
@@ -391,8 +392,7 @@ impl<'t> Reader<'t> {
     }
 }
 
-/// What a line of a transcript says, and of which end, where `before` is the end of the event before
-/// it.
+/// Reads a line of a transcript with its end, where `before` is the end of the preceding event.
 fn line_of(alloc: Global, schema: &Schema, before: Side, text: &[u8]) -> Option<Line> {
     let mut reader = Reader { rest: text };
     let (side, what) = if reader.eat(b"  ") {
@@ -410,7 +410,7 @@ fn line_of(alloc: Global, schema: &Schema, before: Side, text: &[u8]) -> Option<
     }
 }
 
-/// The history of the lines of a transcript.
+/// Reads the history from the lines of a transcript. Fails if a line has another form or memory runs out.
 pub fn history_of(alloc: Global, schema: &Schema, text: &str) -> Result<History, Fail> {
     let mut history = History::new(alloc);
     let mut side = Side::Parent;
@@ -422,7 +422,7 @@ pub fn history_of(alloc: Global, schema: &Schema, text: &str) -> Result<History,
     Ok(history)
 }
 
-/// The values that a text in round brackets spells, as a transcript writes them.
+/// Reads values in parentheses, as a transcript writes them. Fails if the text has another form.
 pub fn values_of(alloc: Global, text: &str) -> Result<Values, Fail> {
     let mut reader = Reader {
         rest: text.as_bytes(),
@@ -430,7 +430,7 @@ pub fn values_of(alloc: Global, text: &str) -> Result<Values, Fail> {
     Ok(reader.listed(alloc).ok_or("another form of values")?)
 }
 
-/// The number of the message that a text names, as `P.M`.
+/// Returns the number of the message that a text names as `P.M`. Fails if the schema has no such message.
 pub fn message_of(schema: &Schema, text: &str) -> Result<u32, Fail> {
     let mut reader = Reader {
         rest: text.as_bytes(),

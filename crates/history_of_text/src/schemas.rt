@@ -1,3 +1,4 @@
+//! The schemas of worked protocols.
 ghost use Rattle.std.specs.Prelude.{IfOk};
 ghost use Rattle.ipdl_base.specs.Sound.{IsSound};
 
@@ -6,7 +7,7 @@ use std::alloc::Global;
 use std::test::Fail;
 use worked_runs::protocol_files;
 
-/// The schema of the worked protocol of a file, and of those that it includes.
+/// Returns the schema of the worked protocol of a file, and of the protocols that it includes.
 pub fn schema_of(alloc: Global, word: &str) -> Result<Schema, Fail>
     ensures { IfOk result IsSound }
 {

@@ -1,4 +1,4 @@
--- One more packet behind those that were sent.
+-- One more packet after those that were sent.
 use Rattle.std.proofs.Common.{◌≡◌, ◌∙◌, ℤ, Bool, true, false, cond, if◌then◌else◌, List, [], ◌∷◌, ◌++◌, map, Option, Some, None, option_map, refl, sym, ap}
 use Rattle.std.specs.List.{find, filter_map}
 use Rattle.std.specs.Option.{option_or}

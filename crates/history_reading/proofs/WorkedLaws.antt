@@ -23,12 +23,12 @@ use Rattle.ipdl_base.specs.Plain.{one_box}
 use Rattle.ipdl_base.specs.declared.line.Line.{Line}
 use Rattle.ipdl_base.specs.declared.line.What.{What}
 use Rattle.ipdl_base.specs.declared.line.What.TheVariants as what
-use Rattle.history_reading.specs.declared.held.Held.{Held}
+use Rattle.history_reading.specs.declared.unanswered_call.UnansweredCall.{UnansweredCall}
 use Rattle.history_reading.specs.declared.law.Law.{Law}
 use Rattle.history_reading.specs.declared.law.Law.TheVariants as law
 use Rattle.history_reading.specs.Chain.{chain_of}
 use Rattle.history_reading.specs.Holds.{holds_of, is_readable, moment_test, passes}
-use Rattle.history_reading.specs.Settled.{is_destroyed, promise_falls_next, resolves_missing, says_fallen}
+use Rattle.history_reading.specs.Settled.{is_destroyed, promise_falls_next, resolves_missing, reports_fallen}
 use Rattle.history_reading.specs.Fallen.{is_next, lets_fall}
 use Rattle.history_reading.specs.Reading.{actor_place, without_first}
 
@@ -66,7 +66,7 @@ top = pos 2147483647
 abbrev laws : List Law
 laws = law.Prefix ∷ law.Living ∷ law.Waits ∷ law.Settled ∷ law.Fallen ∷ []
 
--- what each law says of lines
+-- each law on these lines
 abbrev verdicts : List Line → List Bool
 verdicts lines = map (λ l. holds_of l schema lines) laws
 
@@ -94,22 +94,22 @@ abbrev both_call : List Line
 both_call = both_begin ++ parent (what.ResumeOk (pos 1) (one (pos 20))) ∷ both_end
 
 all_hold : verdicts both_call ≡ true ∷ true ∷ true ∷ true ∷ true ∷ []
-unfolding without_first actor_place is_next lets_fall promise_falls_next says_fallen resolves_missing is_destroyed passes moment_test is_readable
+unfolding without_first actor_place is_next lets_fall promise_falls_next reports_fallen resolves_missing is_destroyed passes moment_test is_readable
 all_hold = refl
 
--- with another value the parent's call does not go on by what was answered
+-- with another value the parent's call does not resume by the answer
 other_value : verdicts (both_begin ++ parent (what.ResumeOk (pos 1) (one (pos 21))) ∷ both_end) ≡ true ∷ true ∷ false ∷ true ∷ true ∷ []
-unfolding without_first actor_place is_next lets_fall promise_falls_next says_fallen resolves_missing is_destroyed passes moment_test is_readable
+unfolding without_first actor_place is_next lets_fall promise_falls_next reports_fallen resolves_missing is_destroyed passes moment_test is_readable
 other_value = refl
 
--- a call that is not there cannot go on
+-- a call that is not there cannot resume
 not_readable : verdicts (both_begin ++ parent (what.ResumeOk (pos 2) (one (pos 20))) ∷ both_end) ≡ false ∷ false ∷ false ∷ false ∷ false ∷ []
-unfolding without_first actor_place is_next lets_fall promise_falls_next says_fallen resolves_missing is_destroyed passes moment_test is_readable
+unfolding without_first actor_place is_next lets_fall promise_falls_next reports_fallen resolves_missing is_destroyed passes moment_test is_readable
 not_readable = refl
 
 -- both calls wait, the older first
-both_wait : map (λ (h : Held). h.head.seq) (chain_of schema (parent (what.Call (pos 1) (pos 1) top 2 Nothing) ∷ child (what.Call (negsuc 0) (negsuc 0) top 0 Nothing) ∷ [])) ≡ pos 1 ∷ negsuc 0 ∷ []
-unfolding without_first actor_place is_next lets_fall promise_falls_next says_fallen resolves_missing is_destroyed passes moment_test is_readable
+both_wait : map (λ (h : UnansweredCall). h.head.seq) (chain_of schema (parent (what.Call (pos 1) (pos 1) top 2 Nothing) ∷ child (what.Call (negsuc 0) (negsuc 0) top 0 Nothing) ∷ [])) ≡ pos 1 ∷ negsuc 0 ∷ []
+unfolding without_first actor_place is_next lets_fall promise_falls_next reports_fallen resolves_missing is_destroyed passes moment_test is_readable
 both_wait = refl
 
 -- An actor is made and asked, and the parent closes before the answer comes.
@@ -133,33 +133,33 @@ abbrev closes_with : List What → List Line
 closes_with effects = made_and_asked ++ parent what.Close ∷ map parent effects
 
 closes : verdicts (closes_with (settles ∷ falls (pos 6) ∷ falls top ∷ [])) ≡ true ∷ true ∷ true ∷ true ∷ true ∷ []
-unfolding without_first actor_place is_next lets_fall promise_falls_next says_fallen resolves_missing is_destroyed passes moment_test is_readable
+unfolding without_first actor_place is_next lets_fall promise_falls_next reports_fallen resolves_missing is_destroyed passes moment_test is_readable
 closes = refl
 
 -- the manager falls first
 manager_first : verdicts (closes_with (settles ∷ falls top ∷ falls (pos 6) ∷ [])) ≡ true ∷ true ∷ true ∷ true ∷ false ∷ []
-unfolding without_first actor_place is_next lets_fall promise_falls_next says_fallen resolves_missing is_destroyed passes moment_test is_readable
+unfolding without_first actor_place is_next lets_fall promise_falls_next reports_fallen resolves_missing is_destroyed passes moment_test is_readable
 manager_first = refl
 
 -- a promise is settled twice, or not at all
 twice : verdicts (closes_with (settles ∷ settles ∷ falls (pos 6) ∷ falls top ∷ [])) ≡ true ∷ true ∷ true ∷ false ∷ true ∷ []
-unfolding without_first actor_place is_next lets_fall promise_falls_next says_fallen resolves_missing is_destroyed passes moment_test is_readable
+unfolding without_first actor_place is_next lets_fall promise_falls_next reports_fallen resolves_missing is_destroyed passes moment_test is_readable
 twice = refl
 
 never : verdicts (closes_with (falls (pos 6) ∷ falls top ∷ [])) ≡ true ∷ true ∷ true ∷ false ∷ true ∷ []
-unfolding without_first actor_place is_next lets_fall promise_falls_next says_fallen resolves_missing is_destroyed passes moment_test is_readable
+unfolding without_first actor_place is_next lets_fall promise_falls_next reports_fallen resolves_missing is_destroyed passes moment_test is_readable
 never = refl
 
 -- an end that dies promises nothing more, and nobody falls there
 dies : verdicts (made_and_asked ++ parent what.Die ∷ []) ≡ true ∷ true ∷ true ∷ true ∷ true ∷ []
-unfolding without_first actor_place is_next lets_fall promise_falls_next says_fallen resolves_missing is_destroyed passes moment_test is_readable
+unfolding without_first actor_place is_next lets_fall promise_falls_next reports_fallen resolves_missing is_destroyed passes moment_test is_readable
 dies = refl
 
 -- what was not sent is delivered, and what does not live is asked
 not_sent : verdicts (made_and_asked ++ child (what.DeliverRequest (pos 3)) ∷ []) ≡ false ∷ true ∷ true ∷ true ∷ true ∷ []
-unfolding without_first actor_place is_next lets_fall promise_falls_next says_fallen resolves_missing is_destroyed passes moment_test is_readable
+unfolding without_first actor_place is_next lets_fall promise_falls_next reports_fallen resolves_missing is_destroyed passes moment_test is_readable
 not_sent = refl
 
 not_living : verdicts (made_and_asked ++ parent (what.Send (pos 3) (pos 10) 65536 Nothing) ∷ []) ≡ true ∷ false ∷ true ∷ true ∷ true ∷ []
-unfolding without_first actor_place is_next lets_fall promise_falls_next says_fallen resolves_missing is_destroyed passes moment_test is_readable
+unfolding without_first actor_place is_next lets_fall promise_falls_next reports_fallen resolves_missing is_destroyed passes moment_test is_readable
 not_living = refl

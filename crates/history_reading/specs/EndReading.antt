@@ -15,6 +15,7 @@ use Rattle.history_reading.specs.declared.parts.PacketKind.{PacketKind}
 use Rattle.history_reading.specs.declared.parts.ActorPlace.{ActorPlace}
 use Rattle.ipdl_base.specs.declared.kinds.EndState.{EndState}
 use Rattle.ipdl_base.specs.declared.kinds.EndState.TheVariants as state
+use Rattle.ipdl_base.specs.Sides.{top_id}
 use Rattle.history_reading.specs.Numbers.{has}
 use Rattle.history_reading.specs.SentPacket as told
 use Rattle.history_reading.specs.SentPacket.{SentPacket, Request, request_of}
@@ -28,7 +29,7 @@ pub record EndReading : Type 0 where
   -- the actors that were built, first the top actor, and the ids of those that fell
   pub built : List BuiltActor
   pub fallen : List ℤ
-  -- how many actors the end has constructed
+  -- the number of actors that the end has constructed
   pub made : ℕ
   -- what was sent, delivered, and has arrived and not left
   pub sent : List SentPacket
@@ -42,7 +43,7 @@ pub record EndReading : Type 0 where
   pub failed : List ℤ
   pub settled : List ℤ
   pub stack : List CallFrame
-  -- the last event, why actors fall in it, and where those stand that fell in it
+  -- the last event, why actors fall in it, and the places of those that fell in it
   pub event : EventKind
   pub cause : Cause
   pub falls : List ActorPlace
@@ -53,7 +54,7 @@ opening = record {
   state = state.Open;
   ended = false;
   over = false;
-  built = record { id = pos 2147483647; manager = pos 0 } ∷ [];
+  built = record { id = top_id; manager = pos 0 } ∷ [];
   fallen = [];
   made = 0;
   sent = [];

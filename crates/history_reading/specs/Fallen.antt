@@ -1,4 +1,4 @@
--- The law Fallen: an actor falls once, behind those that it manages, and only where a destructor or a closing lets it fall.
+-- The law Fallen: an actor falls once, after those that it manages, and only where a destructor or a closing destroys it.
 use Rattle.std.specs.Prelude.{ℤ, Bool, true, false, not, ◌&&◌, ◌||◌, nat_lt, if◌then◌else◌, List, [], ◌∷◌, reverse}
 use Rattle.std.specs.List.{list_all, list_any}
 use Rattle.std.specs.Ordering.{int_eq}
@@ -56,7 +56,7 @@ is_deleted built top id destroy.Deletion = int_eq id top
 is_deleted built top id destroy.AncestorDeletion = is_below built id top
 is_deleted built top id _ = false
 
--- the event lets an actor fall for this reason
+-- the event destroys an actor for this reason
 unfoldable pub lets_fall : List BuiltActor → Cause → ℤ → Destroy → Bool
 lets_fall built cause.Nobody id why = false
 lets_fall built (cause.Delete top) id why = is_deleted built top id why
@@ -66,7 +66,7 @@ lets_fall built (cause.Closing reason) id why = same_destroy why reason
 unfoldable pub is_next : EndReading → ℤ → Bool
 is_next own id = not (manages_living own id) && not (younger_fell own id)
 
--- and the event lets it fall
+-- and the event destroys it
 abbrev pub falls_now : EndReading → ℤ → Destroy → Bool
 falls_now own id why = is_next own id && lets_fall own.built own.cause id why
 
@@ -74,7 +74,7 @@ falls_now own id why = is_next own id && lets_fall own.built own.cause id why
 abbrev pub may_fall : EndReading → ℤ → Destroy → Bool
 may_fall own id why = lives own id && falls_now own id why
 
--- a line of an end, behind what is read of that end, is as the law demands
+-- a line of an end, after what is read of that end, obeys the law
 abbrev pub fallen_line : EndReading → What → Bool
 fallen_line own (what.Built id protocol) = not (has own.fallen (route_of own.event))
 fallen_line own (what.Fall id why) = may_fall own id why

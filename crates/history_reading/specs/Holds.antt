@@ -32,7 +32,7 @@ abbrev pub is_answer_on_top : List CallFrame → ℤ → Bool
 is_answer_on_top (frame.Answered c ∷ below) n = int_eq c.seq n
 is_answer_on_top _ n = false
 
--- what a line says can be read: a message that it names is one of the schema, what it ends is on top
+-- the content of a line can be read: a message that it names is one of the schema, what it ends is on top
 abbrev pub is_readable_what : Schema → List CallFrame → What → Bool
 is_readable_what schema stack (what.Send n route number values) = is_request_number schema number
 is_readable_what schema stack (what.Call n transaction route number values) = is_request_number schema number
@@ -48,29 +48,29 @@ is_readable_what schema stack _ = true
 abbrev pub is_of_event : Side → Option Side → Bool
 is_of_event end last = option_map_or (λ side. same_side side end) last false
 
--- a line can be read behind what is read before it
+-- a line can be read after what is read before it
 unfoldable pub is_readable : Schema → Reading → Line → Bool
 is_readable schema reading line = (if is_effect line.what then is_of_event line.side reading.last else true) && is_readable_what schema (end_reading_of line.side reading).stack line.what
 
--- a test of each line: of the lines before it, the line, and the lines behind it
+-- a test of each line: of the lines before it, the line, and the lines after it
 abbrev pub each_line : (List Line → Line → List Line → Bool) → List Line → List Line → Bool
 each_line test before [] = true
-each_line test before (line ∷ behind) = test before line behind && each_line test (before ++ line ∷ []) behind
+each_line test before (line ∷ following) = test before line following && each_line test (before ++ line ∷ []) following
 
 -- a list of lines can be read
 abbrev pub is_readable_list : Schema → List Line → Bool
-is_readable_list schema lines = each_line (λ before line behind. is_readable schema (read schema before) line) [] lines
+is_readable_list schema lines = each_line (λ before line following. is_readable schema (read schema before) line) [] lines
 
 abbrev pub IsReadable : Schema → List Line → Type 0
 IsReadable schema lines = IsTrue (is_readable_list schema lines)
 
--- the test of a law of a line of an end, by what is read of that end and of the other before it, and by the lines behind it
+-- the test of a law of a line of an end, by what is read of that end and of the other before it, and by the lines after it
 abbrev pub line_test : Law → Schema → Side → EndReading → EndReading → What → List Line → Bool
-line_test law.Prefix schema end own other said behind = prefix_line schema own other said
-line_test law.Living schema end own other said behind = living_line schema end own other said
-line_test law.Waits schema end own other said behind = waits_line schema own other said
-line_test law.Settled schema end own other said behind = settled_line schema end own other said behind
-line_test law.Fallen schema end own other said behind = fallen_line own said
+line_test law.Prefix schema end own other said following = prefix_line schema own other said
+line_test law.Living schema end own other said following = living_line schema end own other said
+line_test law.Waits schema end own other said following = waits_line schema own other said
+line_test law.Settled schema end own other said following = settled_line schema end own other said following
+line_test law.Fallen schema end own other said following = fallen_line own said
 
 -- the test of a law of a moment
 unfoldable pub moment_test : Law → Schema → Reading → Bool
@@ -86,12 +86,12 @@ moment_before law schema reading said = if is_effect said then true else moment_
 
 -- a line passes: it can be read, the moment before it passes where it is an event, and so does the line
 unfoldable pub passes : Law → Schema → Reading → Line → List Line → Bool
-passes law schema reading line behind =
-    is_readable schema reading line && (moment_before law schema reading line.what && line_test law schema line.side (end_reading_of line.side reading) (other_of line.side reading) line.what behind)
+passes law schema reading line following =
+    is_readable schema reading line && (moment_before law schema reading line.what && line_test law schema line.side (end_reading_of line.side reading) (other_of line.side reading) line.what following)
 
--- A law holds of lines where each of them passes, and the moment behind the last does.
+-- A law holds of lines where each of them passes, and the moment after the last does.
 abbrev pub each_passes : Law → Schema → List Line → Bool
-each_passes law schema lines = each_line (λ before line behind. passes law schema (read schema before) line behind) [] lines
+each_passes law schema lines = each_line (λ before line following. passes law schema (read schema before) line following) [] lines
 
 abbrev pub holds_of : Law → Schema → List Line → Bool
 holds_of law schema lines = each_passes law schema lines && moment_test law schema (read schema lines)

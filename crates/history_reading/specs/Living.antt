@@ -3,7 +3,6 @@ use Rattle.std.specs.Prelude.{ℕ, ℤ, pos, Bool, true, false, not, ◌&&◌, �
 use Rattle.std.specs.Option.{option_map_or}
 use Rattle.std.specs.Ordering.{int_eq}
 use Rattle.ipdl_base.specs.declared.kinds.Side.{Side}
-use Rattle.ipdl_base.specs.declared.kinds.Side.TheVariants as side
 use Rattle.ipdl_base.specs.declared.schema.Schema.{Schema}
 use Rattle.ipdl_base.specs.declared.schema.ParamRow.{ParamRow}
 use Rattle.ipdl_base.specs.declared.value.Values.{Values}
@@ -14,12 +13,9 @@ use Rattle.history_reading.specs.declared.parts.EventKind.TheVariants as event
 use Rattle.history_reading.specs.EndReading.{EndReading, lives, own_request, was_built}
 use Rattle.history_reading.specs.Nulled.{all_live, missing}
 use Rattle.history_reading.specs.Numbers.{id_of}
+use Rattle.ipdl_base.specs.Sides.{other as other_side}
 use Rattle.ipdl_base.specs.Signatures.{params_of}
 use Rattle.history_reading.specs.SentPacket.{Request}
-
-abbrev pub other_side : Side → Side
-other_side side.Parent = side.Child
-other_side side.Child = side.Parent
 
 -- the actor that a request makes, 0 where it makes none
 abbrev pub made_id : Side → Request → ℤ
@@ -61,7 +57,7 @@ is_taken_alive schema own route number values = lives own route && all_live sche
 abbrev pub is_built_right : Side → EndReading → EndReading → ℤ → Bool
 is_built_right end own other id = not (was_built own.built id) && is_made end own other id
 
--- a line of an end, behind what is read of that end and of the other, is as the law demands
+-- a line of an end, after what is read of that end and of the other, obeys the law
 abbrev pub living_line : Schema → Side → EndReading → EndReading → What → Bool
 living_line schema end own other (what.Send n route number values) = lives own route
 living_line schema end own other (what.Call n transaction route number values) = lives own route

@@ -47,7 +47,7 @@ abbrev pub named_actors : Option Shape → ℤ → List TypedActor
 named_actors (Some (Actor p nullable)) id = record { nullable = nullable; id = id } ∷ []
 named_actors _ id = []
 
--- The actors in a value, in the order in which they stand. One where its type wants none is passed over.
+-- The actors in a value, in their order. An actor whose type is none of actors is passed over.
 abbrev mutual
   pub actors_in : Schema → Option Shape → Value → List TypedActor
   actors_in schema shape (value.Bool b) = []

@@ -14,7 +14,7 @@ use Rattle.history_reading.specs.Numbers.{has, has_packet, same_packet}
 use Rattle.ipdl_base.specs.Signatures.{params_of}
 use Rattle.history_reading.specs.SentPacket.{Request, SentPacket, packet_kind}
 
--- a packet is the next of those that were sent behind so many
+-- a packet is the next of those that were sent after that many
 abbrev pub is_next_of : List SentPacket → ℕ → PacketKind → Bool
 is_next_of sent count packet = option_map_or (λ told. same_packet (packet_kind told) packet) (slice_get sent count) false
 
@@ -43,7 +43,7 @@ was_sent_with schema own other n route number values =
 abbrev pub is_reply_there : EndReading → ℤ → Bool
 is_reply_there own n = has_packet own.delivered (seen.Reply n) && not (has own.replies n)
 
--- a line of an end, behind what is read of that end and of the other, is as the law demands
+-- a line of an end, after what is read of that end and of the other, obeys the law
 abbrev pub prefix_line : Schema → EndReading → EndReading → What → Bool
 prefix_line schema own other (what.DeliverRequest n) = is_next (seen.Request n) own other
 prefix_line schema own other (what.DeliverReply n) = is_next (seen.Reply n) own other

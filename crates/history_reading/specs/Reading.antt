@@ -44,11 +44,11 @@ quiet own = begun event.Other cause.Nobody own
 abbrev pub telling : SentPacket → EndReading → EndReading
 telling packet own = record own { sent = own.sent ++ packet ∷ [] }
 
--- a frame goes on top
+-- a frame is pushed
 abbrev pub pushing : CallFrame → EndReading → EndReading
 pushing top own = record own { stack = top ∷ own.stack }
 
--- how many actors an end has constructed behind one more request
+-- the number of actors that an end has constructed after one more request
 abbrev pub made_after : Schema → ℕ → ℕ → ℕ
 made_after schema number made = if is_constructor schema number then made + 1 else made
 
@@ -139,7 +139,7 @@ building id own = record own { built = own.built ++ record { id = id; manager = 
 abbrev pub manager_of : List BuiltActor → ℤ → ℤ
 manager_of built id = unwrap_or (option_map (λ a. a.manager) (find (λ a. int_eq a.id id) built)) (pos 0)
 
--- where an actor stands among those that were built
+-- the place of an actor among those that were built
 unfoldable pub actor_place : List BuiltActor → ℤ → ActorPlace
 actor_place built id = record { place = unwrap_or (position (λ a. int_eq a.id id) built) (length built); manager = manager_of built id }
 
@@ -159,7 +159,7 @@ failing n own = record (answering n own) { failed = own.failed ++ n ∷ [] }
 abbrev pub settling : ℤ → EndReading → EndReading
 settling n own = record own { settled = own.settled ++ n ∷ [] }
 
--- What is read of an end behind one more line of it, which stands at a place in the history.
+-- What is read of an end after one more line of it, which is at a place in the history.
 abbrev pub after_what : Schema → ℕ → What → EndReading → EndReading
 after_what schema place (what.Send n route number values) own = begun (event.Sends n route) (delete_cause schema number route) (sending schema n (pos 0) route number values own)
 after_what schema place (what.Call n transaction route number values) own =
@@ -197,7 +197,7 @@ after_what schema place (what.Resolved n values) own = settling n own
 after_what schema place (what.Rejected n reason) own = settling n own
 after_what schema place (what.Fall id destroy) own = falling id own
 
--- What is read of both ends, the end of the last event, and how many lines there were.
+-- What is read of both ends, the end of the last event, and the number of lines.
 pub record Reading : Type 0 where
   pub parent : EndReading
   pub child : EndReading
@@ -220,7 +220,7 @@ other_of side.Child reading = reading.parent
 abbrev pub last_after : What → Side → Option Side → Option Side
 last_after said end before = if is_effect said then before else Some end
 
--- the reading behind one more line
+-- the reading after one more line
 abbrev pub after_at : Schema → Side → What → Reading → Reading
 after_at schema side.Parent said reading =
     record { parent = after_what schema reading.lines said reading.parent; child = reading.child; last = last_after said side.Parent reading.last; lines = reading.lines + 1 }

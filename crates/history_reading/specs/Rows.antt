@@ -1,4 +1,4 @@
--- What the message of a request's number says of it.
+-- The properties of a request, by the message of its number.
 use Rattle.std.specs.Prelude.{ℕ, ◌==◌, ℤ, pos, Bool, true, false, ◌&&◌, not, if◌then◌else◌, is_some, List, [], Option, Some, None, unwrap_or}
 use Rattle.std.specs.Option.{option_map_or}
 use Rattle.ipdl_base.specs.declared.schema.Kind.{Kind}

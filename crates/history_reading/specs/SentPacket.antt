@@ -22,7 +22,7 @@ pub record Request : Type 0 where
   pub made : ℕ
   pub values : Values
 
--- what a reply says: values or a rejection of a handler that was given a resolver, else values or a fault
+-- what a reply states: values or a rejection of a handler that was given a resolver, else values or a fault
 pub data ReplyContent : Type 0 where
   resolved : Values → ReplyContent
   rejected : ReplyContent

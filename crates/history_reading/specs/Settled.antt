@@ -1,4 +1,4 @@
--- The law Settled: a promise is settled once, by what was said or by what happened to it.
+-- The law Settled: a promise is settled once, by what was sent or by what happened to it.
 use Rattle.std.specs.Prelude.{ℤ, Bool, true, false, not, ◌&&◌, if◌then◌else◌, List, [], ◌∷◌, is_some}
 use Rattle.std.specs.List.{list_all}
 use Rattle.std.specs.Option.{option_map_or}
@@ -63,47 +63,48 @@ is_fall_of id _ = false
 abbrev pub is_fall_at : Side → ℤ → Line → Bool
 is_fall_at end id line = same_side line.side end && is_fall_of id line.what
 
--- of the lines behind, the first that settles nothing is the fall of this actor at this end
+-- of the lines after, the first that settles nothing is the fall of this actor at this end
 abbrev pub falls_next : Side → ℤ → List Line → Bool
 falls_next end id [] = false
-falls_next end id (line ∷ behind) = if is_settle line.what then falls_next end id behind else is_fall_at end id line
+falls_next end id (line ∷ following) = if is_settle line.what then falls_next end id following else is_fall_at end id line
 
 -- the actor of a promise falls next
 unfoldable pub promise_falls_next : Side → EndReading → ℤ → List Line → Bool
-promise_falls_next end own n behind = option_map_or (λ r. falls_next end r.route behind) (own_request own n) false
+promise_falls_next end own n following = option_map_or (λ r. falls_next end r.route following) (own_request own n) false
 
--- the other end says that an actor was destroyed
-unfoldable pub says_fallen : EndReading → ℤ → Bool
-says_fallen other n = says (is_fault reason.ActorDestroyed) other.sent n
+-- the other end reports that an actor was destroyed
+unfoldable pub reports_fallen : EndReading → ℤ → Bool
+reports_fallen other n = says (is_fault reason.ActorDestroyed) other.sent n
 
 -- it resolves a promise with values in which an actor is missing
 unfoldable pub resolves_missing : Schema → EndReading → EndReading → ℤ → Bool
 resolves_missing schema own other n = says (is_resolved_missing schema own (own_returns schema own n)) other.sent n
 
 -- one or the other
-abbrev pub says_destroyed : Schema → EndReading → EndReading → ℤ → Bool
-says_destroyed schema own other n = if says_fallen other n then true else resolves_missing schema own other n
+abbrev pub reports_destroyed : Schema → EndReading → EndReading → ℤ → Bool
+reports_destroyed schema own other n = if reports_fallen other n then true else resolves_missing schema own other n
 
--- a promise may be rejected because an actor was destroyed: the other end says so, or the promise's own actor falls next
+-- a promise may be rejected because an actor was destroyed: the other end reports it, or the promise's own actor falls
+-- next
 unfoldable pub is_destroyed : Schema → Side → EndReading → EndReading → ℤ → List Line → Bool
-is_destroyed schema end own other n behind = if says_destroyed schema own other n then true else promise_falls_next end own n behind
+is_destroyed schema end own other n following = if reports_destroyed schema own other n then true else promise_falls_next end own n following
 
 -- a rejection has its cause
 abbrev pub is_cause : Schema → Side → EndReading → EndReading → ℤ → List Line → Reason → Bool
-is_cause schema end own other n behind reason.HandlerRejected = says is_rejected other.sent n
-is_cause schema end own other n behind reason.ResolverDestroyed = says (is_fault reason.ResolverDestroyed) other.sent n
-is_cause schema end own other n behind reason.ChannelClosed = is_close_event own.event
-is_cause schema end own other n behind reason.ActorDestroyed = is_destroyed schema end own other n behind
+is_cause schema end own other n following reason.HandlerRejected = says is_rejected other.sent n
+is_cause schema end own other n following reason.ResolverDestroyed = says (is_fault reason.ResolverDestroyed) other.sent n
+is_cause schema end own other n following reason.ChannelClosed = is_close_event own.event
+is_cause schema end own other n following reason.ActorDestroyed = is_destroyed schema end own other n following
 
 -- a promise is settled with values that the other end resolved it with
 abbrev pub is_resolved : Schema → EndReading → EndReading → ℤ → Values → Bool
 is_resolved schema own other n values = says (is_resolved_with schema own (own_returns schema own n) values) other.sent n
 
--- a line of an end, behind what is read of that end and of the other and before the lines behind it, is as the law demands
+-- a line of an end, after what is read of that end and of the other and before the lines after it, obeys the law
 abbrev pub settled_line : Schema → Side → EndReading → EndReading → What → List Line → Bool
-settled_line schema end own other (what.Resolved n values) behind = is_unsettled own n && is_resolved schema own other n values
-settled_line schema end own other (what.Rejected n r) behind = is_unsettled own n && is_cause schema end own other n behind r
-settled_line schema end own other _ behind = true
+settled_line schema end own other (what.Resolved n values) following = is_unsettled own n && is_resolved schema own other n values
+settled_line schema end own other (what.Rejected n r) following = is_unsettled own n && is_cause schema end own other n following r
+settled_line schema end own other _ following = true
 
 -- each promise is settled
 abbrev pub all_settled : List ℤ → List SentPacket → Bool

@@ -1,4 +1,4 @@
--- What an end defers, and whether nothing but acts is possible, as far as lines tell.
+-- What an end defers, and whether nothing but acts is possible, as far as lines show.
 use Rattle.std.specs.Prelude.{ℕ, ℤ, Bool, true, false, not, ◌&&◌, ◌==◌, nat_lt, if◌then◌else◌, List, [], ◌∷◌, length, Option, Some, None, option_map, option_and_then}
 use Rattle.std.specs.List.{list_any}
 use Rattle.std.specs.Option.{option_map_or}
@@ -121,7 +121,7 @@ some_is_free schema other d packets = list_any (λ packet. not (defers_packet sc
 abbrev pub can_take : Schema → Side → EndReading → EndReading → Bool
 can_take schema end own other = takes_items own.state && some_is_free schema other (deferral_of schema end own other) own.arrived
 
--- nothing is possible at an end but acts: no delivery, no return and no call that goes on, no packet that is taken
+-- nothing is possible at an end but acts: no delivery, no return and no call that resumes, no packet that is taken
 abbrev pub is_still_at : Schema → Side → EndReading → EndReading → Bool
 is_still_at schema end own other = if can_deliver own other then false else (if can_take_now own.stack then not (can_take schema end own other) else false)
 

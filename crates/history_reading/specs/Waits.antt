@@ -1,4 +1,4 @@
--- The law Waits: waits end in order and by what was said, and two waits never block each other.
+-- The law Waits: waits end in order and by what was sent, and two waits never block each other.
 use Rattle.std.specs.Prelude.{ℤ, Bool, true, false, not, ◌&&◌, ◌||◌, if◌then◌else◌, List, [], is_some}
 use Rattle.std.specs.Option.{option_map_or}
 use Rattle.ipdl_base.specs.declared.kinds.Reason.{Reason}
@@ -31,7 +31,7 @@ same_reason reason.ActorDestroyed reason.ActorDestroyed = true
 same_reason reason.ResolverDestroyed reason.ResolverDestroyed = true
 same_reason _ _ = false
 
--- a reply says a fault
+-- a reply is a fault
 abbrev pub is_fault : Reason → ReplyContent → Bool
 is_fault r (resolved vs) = false
 is_fault r rejected = false
@@ -52,14 +52,14 @@ is_ok_missing schema own types rejected = false
 is_ok_missing schema own types (ok vs) = is_some (missing schema (lives own) types vs)
 is_ok_missing schema own types (fault q) = false
 
--- a fault comes without a reply that says it: the channel ended under the call, or an actor is missing
+-- a fault comes without a reply that states it: the channel ended under the call, or an actor is missing
 abbrev pub is_own_fault : Schema → EndReading → EndReading → ℤ → Reason → Bool
 is_own_fault schema own other n reason.ChannelClosed = has own.failed n
 is_own_fault schema own other n reason.ActorDestroyed = says (is_ok_missing schema own (own_returns schema own n)) other.sent n
 is_own_fault schema own other n reason.HandlerRejected = false
 is_own_fault schema own other n reason.ResolverDestroyed = false
 
--- a call goes on with values that the other end answered, or with a fault that it said or that came without a reply
+-- a call resumes with values that the other end answered, or with a fault that it sent or that came without a reply
 abbrev pub is_answered : Schema → EndReading → EndReading → ℤ → Values → Bool
 is_answered schema own other n values = says (is_ok_with schema own (own_returns schema own n) values) other.sent n
 
@@ -75,7 +75,7 @@ is_end_event _ = false
 abbrev pub is_reply_in_order : EndReading → ℤ → Bool
 is_reply_in_order own n = if is_sync_request own n then awaits own.stack n else true
 
--- a line of an end, behind what is read of that end and of the other, is as the law demands
+-- a line of an end, after what is read of that end and of the other, obeys the law
 abbrev pub waits_line : Schema → EndReading → EndReading → What → Bool
 waits_line schema own other (what.DeliverReply n) = is_reply_in_order own n
 waits_line schema own other (what.Fails n) = awaits own.stack n && is_end_event own.event
@@ -92,11 +92,11 @@ abbrev pub block_each_other : Schema → EndReading → EndReading → Bool
 block_each_other schema parent child = blocks schema side.Parent parent child && blocks schema side.Child child parent
 
 -- an end to which the end of the other was delivered in its last event waits for nothing
-abbrev pub waits_behind_end : EndReading → Bool
-waits_behind_end own = is_end_event own.event && has_unanswered own.stack
+abbrev pub waits_after_end : EndReading → Bool
+waits_after_end own = is_end_event own.event && has_unanswered own.stack
 
-abbrev pub some_waits_behind_end : Reading → Bool
-some_waits_behind_end reading = waits_behind_end reading.parent || waits_behind_end reading.child
+abbrev pub some_waits_after_end : Reading → Bool
+some_waits_after_end reading = waits_after_end reading.parent || waits_after_end reading.child
 
 -- some end waits, and does so where nothing but acts is possible
 abbrev pub some_waits : Reading → Bool
@@ -105,8 +105,8 @@ some_waits reading = has_unanswered reading.parent.stack || has_unanswered readi
 abbrev pub waits_while_still : Schema → Reading → Bool
 waits_while_still schema reading = some_waits reading && is_still schema reading
 
--- what is read at a moment is as the law demands
+-- what is read at a moment obeys the law
 abbrev pub waits_moment : Schema → Reading → Bool
 waits_moment schema reading =
     if block_each_other schema reading.parent reading.child then false else
-    (if some_waits_behind_end reading then false else not (waits_while_still schema reading))
+    (if some_waits_after_end reading then false else not (waits_while_still schema reading))

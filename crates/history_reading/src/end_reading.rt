@@ -1,3 +1,4 @@
+//! What is read of one end, and how each line changes it.
 ghost use Rattle.std.specs.Prelude.{◌≡◌, ◌∷◌, ◌++◌, [], OnOk, IfOk, option_map, find, position};
 ghost use Rattle.std.specs.Ordering.{int_eq};
 ghost use Rattle.history_reading.specs.Numbers.{same_packet};
@@ -11,24 +12,21 @@ use crate::parts::{ActorPlace, BuiltActor, CallFrame, Cause, EventKind, PacketKi
 use crate::sent::SentList;
 use crate::sent_packet::SentPacket;
 use crate::stack::CallStack;
-use ipdl_base::{Destroy, EndState};
+use ipdl_base::{Destroy, EndState, TOP_ID};
 use std::alloc::{AllocError, Global};
-
-/// The id of the top actor.
-const TOP: i32 = 2_147_483_647;
 
 /// What is read from the lines of one end.
 #[derive(Drop)]
 pub struct EndReading<'h> {
     pub state: EndState,
-    /// Whether the end has sent or been given an end of the channel.
+    /// Whether the end has sent or received an end of the channel.
     pub ended: bool,
     /// Whether the end has closed.
     pub over: bool,
-    /// The actors that were built, first the top actor.
+    /// The actors that were built, the top actor first.
     pub built: Vec<BuiltActor>,
     pub fallen: NumberList,
-    /// How many actors the end has constructed.
+    /// The number of actors that the end has constructed.
     pub made: usize,
     pub sent: SentList<'h>,
     pub delivered: Vec<PacketKind>,
@@ -44,18 +42,18 @@ pub struct EndReading<'h> {
     pub stack: CallStack,
     pub event: EventKind,
     pub cause: Cause,
-    /// Where those stand that fell in the event.
+    /// The places of the actors that fell in the event.
     pub falls: Vec<ActorPlace>,
 }
 
 impl<'h> EndReading<'h> {
-    /// What is read of no lines: the top actor lives.
+    /// Returns what is read of no lines: the top actor lives.
     pub fn new(alloc: Global) -> Result<EndReading<'h>, AllocError>
         ensures { IfOk result (λ own. end_view own ≡ opening) }
     {
         let mut built = Vec::new(alloc);
         built.push(BuiltActor {
-            id: TOP,
+            id: TOP_ID,
             manager: 0,
         })?;
         Ok(EndReading {
@@ -80,7 +78,7 @@ impl<'h> EndReading<'h> {
         })
     }
 
-    /// An event begins.
+    /// Begins an event.
     pub fn begin(&mut self, event: EventKind, cause: Cause)
         ensures { end_view self.new ≡ read.begun event cause (end_view self.old) }
     {
@@ -89,21 +87,21 @@ impl<'h> EndReading<'h> {
         self.falls.clear();
     }
 
-    /// A packet goes last in what was sent.
+    /// Appends a packet to what was sent.
     pub fn tell(&mut self, told: SentPacket<'h>) -> Result<(), AllocError>
         ensures { OnOk result (end_view self.new ≡ read.telling (packet_view told.entry) (end_view self.old)) }
     {
         self.sent.push(told)
     }
 
-    /// A frame goes on top.
+    /// Pushes a frame.
     pub fn push(&mut self, frame: CallFrame) -> Result<(), AllocError>
         ensures { OnOk result (end_view self.new ≡ read.pushing frame (end_view self.old)) }
     {
         self.stack.push(frame)
     }
 
-    /// A packet is delivered that does not arrive.
+    /// Notes the delivery of a packet that does not arrive.
     pub fn deliver(&mut self, packet: PacketKind) -> Result<(), AllocError>
         ensures { OnOk result (end_view self.new ≡ read.delivering packet (end_view self.old)) }
     {
@@ -111,7 +109,7 @@ impl<'h> EndReading<'h> {
         Ok(())
     }
 
-    /// A packet is delivered and arrives.
+    /// Notes the delivery of a packet that arrives.
     pub fn arrive(&mut self, packet: PacketKind) -> Result<(), AllocError>
         ensures { OnOk result (end_view self.new ≡ read.arriving packet (end_view self.old)) }
     {
@@ -120,21 +118,21 @@ impl<'h> EndReading<'h> {
         Ok(())
     }
 
-    /// The first that shows a packet leaves those that have arrived.
+    /// Removes the first arrived item that shows a packet.
     pub fn leave(&mut self, packet: PacketKind)
         ensures { end_view self.new ≡ read.leaving packet (end_view self.old) }
     {
         remove_first(&mut self.arrived, packet);
     }
 
-    /// The innermost unanswered wait of a number is answered.
+    /// Answers the innermost unanswered wait of a number.
     pub fn answer(&mut self, n: i32)
         ensures { end_view self.new ≡ read.answering n (end_view self.old) }
     {
         self.stack.answer(n);
     }
 
-    /// The end of the channel arrives.
+    /// Notes the arrival of the end of the channel.
     pub fn drain(&mut self, packet: PacketKind) -> Result<(), AllocError>
         ensures { OnOk result (end_view self.new ≡ read.draining packet (end_view self.old)) }
     {
@@ -144,7 +142,7 @@ impl<'h> EndReading<'h> {
         Ok(())
     }
 
-    /// A request leaves those that have arrived for good.
+    /// Removes a request from those that have arrived for good.
     pub fn go(&mut self, n: i32) -> Result<(), AllocError>
         ensures { OnOk result (end_view self.new ≡ read.going n (end_view self.old)) }
     {
@@ -152,7 +150,7 @@ impl<'h> EndReading<'h> {
         self.gone.push(n)
     }
 
-    /// The end closes.
+    /// Closes the end.
     pub fn close(&mut self, why: Destroy)
         ensures { end_view self.new ≡ read.closing why (end_view self.old) }
     {
@@ -162,7 +160,7 @@ impl<'h> EndReading<'h> {
         self.arrived.clear();
     }
 
-    /// The end dies.
+    /// Ends in a death.
     pub fn die(&mut self) -> Result<(), AllocError>
         ensures { OnOk result (end_view self.new ≡ read.dying (end_view self.old)) }
     {
@@ -176,7 +174,7 @@ impl<'h> EndReading<'h> {
         Ok(())
     }
 
-    /// The top frame comes off.
+    /// Pops the top frame.
     pub fn pop(&mut self, cause: Cause)
         ensures { end_view self.new ≡ read.popping cause (end_view self.old) }
     {
@@ -184,7 +182,7 @@ impl<'h> EndReading<'h> {
         self.stack.pop();
     }
 
-    /// An actor is built under that of the event.
+    /// Builds an actor under that of the event.
     pub fn build(&mut self, id: i32) -> Result<(), AllocError>
         ensures { OnOk result (end_view self.new ≡ read.building id (end_view self.old)) }
     {
@@ -193,7 +191,7 @@ impl<'h> EndReading<'h> {
         Ok(())
     }
 
-    /// An actor falls.
+    /// Records the fall of an actor.
     pub fn fall(&mut self, id: i32) -> Result<(), AllocError>
         ensures { OnOk result (end_view self.new ≡ read.falling id (end_view self.old)) }
     {
@@ -205,7 +203,7 @@ impl<'h> EndReading<'h> {
 }
 
 impl EventKind {
-    /// The actor to which a request goes or at which it is handled, or 0.
+    /// Returns the actor to which a request goes or at which it is handled, or 0.
     pub fn route(&self) -> i32
         ensures { result ≡ read.route_of self.now }
     {
@@ -253,14 +251,14 @@ fn was_built(built: &[BuiltActor], id: i32) -> bool
     built.iter().any(|actor| actor.id == id)
 }
 
-/// The place of the first that shows a packet.
+/// Returns the place of the first item that shows a packet.
 fn place_of(packets: &[PacketKind], packet: PacketKind) -> Option<usize>
     ensures { result ≡ position (λ p. same_packet p packet) packets.now }
 {
     packets.iter().position(|first| first.same(&packet))
 }
 
-/// Takes out the first that shows a packet, where there is one.
+/// Removes the first item that shows a packet, if there is one.
 #[tactic(auto, unfolding(crate::specs::Reading::without_first))]
 fn remove_first(packets: &mut Vec<PacketKind>, packet: PacketKind)
     ensures { packets.new.items ≡ read.without_first packet packets.old.items }
@@ -272,7 +270,7 @@ fn remove_first(packets: &mut Vec<PacketKind>, packet: PacketKind)
     }
 }
 
-/// The manager of the first actor of an id that was built.
+/// Returns the manager of the first actor of an id that was built.
 fn found_manager(built: &[BuiltActor], id: i32) -> Option<i32>
     ensures { result ≡ option_map (λ a. a.manager) (find (λ a. int_eq a.id id) built.now) }
 {
@@ -280,14 +278,14 @@ fn found_manager(built: &[BuiltActor], id: i32) -> Option<i32>
     found.map(|actor| actor.manager)
 }
 
-/// The place of the first actor of an id that was built.
+/// Returns the place of the first actor of an id that was built.
 fn found_place(built: &[BuiltActor], id: i32) -> Option<usize>
     ensures { result ≡ position (λ a. int_eq a.id id) built.now }
 {
     built.iter().position(|actor| actor.id == id)
 }
 
-/// Where an actor stands among those that were built, behind all where it was not.
+/// Returns the place of an actor among those that were built, or the place after all of them.
 #[tactic(auto, unfolding(crate::specs::Reading::actor_place))]
 pub fn actor_place(built: &[BuiltActor], id: i32) -> ActorPlace
     ensures { result ≡ read.actor_place built.now id }

@@ -1,3 +1,4 @@
+//! Reads the lines of an end.
 ghost use Rattle.std.specs.Prelude.{◌≡◌, pos, OnOk, [], ◌∷◌};
 ghost use Rattle.ipdl_base.specs.Sound.{IsSound};
 ghost use Rattle.ipdl_base.specs.declared.kinds.Destroy.TheVariants.{NormalShutdown};
@@ -20,14 +21,14 @@ use ipdl_base::{Destroy, Schema, Values, What};
 use std::alloc::AllocError;
 
 impl<'h> EndReading<'h> {
-    /// An event in which nobody falls.
+    /// Begins an event in which no actor falls.
     fn quiet(&mut self)
         ensures { end_view self.new ≡ read.quiet (end_view self.old) }
     {
         self.begin(EventKind::Other, Cause::Nobody);
     }
 
-    /// A request is sent that makes no actor, or the next one.
+    /// Notes the sending of a request that makes no actor, or the next one.
     fn send(
         &mut self,
         schema: &Schema,
@@ -238,7 +239,7 @@ impl<'h> EndReading<'h> {
 }
 
 impl<'h> EndReading<'h> {
-    /// What is read behind one more line of the end, which stands at a place in the history.
+    /// Reads one more line of the end, which is at a place in the history.
     pub fn note(&mut self, schema: &Schema, place: usize, what: &'h What) -> Result<(), AllocError>
         requires { IsSound schema.now }
         ensures { OnOk result (end_view self.new ≡ read.after_what schema.now place what.now (end_view self.old)) }

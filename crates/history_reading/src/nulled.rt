@@ -1,3 +1,4 @@
+//! The actors in values: the missing ones, the dead ones, and values with null for dead actors.
 ghost use Rattle.std.specs.Prelude.{◌≡◌, ◌++◌, option_map, find, is_some};
 ghost use Rattle.std.specs.Option.{option_copied};
 ghost use Rattle.history_reading.specs.EndReading.{lives};
@@ -9,14 +10,14 @@ use crate::end_reading::EndReading;
 use crate::shapes::{component_of, element_of, fields_of, held_by, split_fields};
 use ipdl_base::{ParamRow, Schema, Shape, Value, Values};
 
-/// Which actors in values are looked for: those that are missing, or those that are dead.
+/// The actors in values that a search is for: those that are missing, or those that are dead.
 #[derive(Clone, Copy)]
 pub enum ActorQuery {
     Missing,
     Dead,
 }
 
-/// Whether an actor is looked for, by whether its type has null and its id.
+/// Whether a search is for an actor, by whether its type is nullable and by its id.
 fn is_wanted(own: &EndReading<'_>, wanted: ActorQuery, nullable: bool, id: i32) -> bool
     ensures { result ≡ is_wanted wanted (lives (end_view own.now)) (record { nullable = nullable; id = id }) }
 {
@@ -26,7 +27,7 @@ fn is_wanted(own: &EndReading<'_>, wanted: ActorQuery, nullable: bool, id: i32) 
     }
 }
 
-/// An actor, where its type is one of actors and it is looked for.
+/// Returns an actor, if its type is one of actors and the search is for it.
 fn wanted_actor(
     own: &EndReading<'_>,
     wanted: ActorQuery,
@@ -47,7 +48,7 @@ fn wanted_actor(
     }
 }
 
-/// The first actor in a value of a type that is looked for.
+/// Returns the first actor found in a value of a type.
 #[cycle(wanted)]
 fn wanted_in(
     value: &Value,
@@ -77,7 +78,7 @@ fn wanted_in(
     }
 }
 
-/// The first in values of one type.
+/// Returns the first actor found in values of one type.
 #[cycle(wanted)]
 fn wanted_in_each(
     values: &Values,
@@ -97,7 +98,7 @@ fn wanted_in_each(
     }
 }
 
-/// The first in values of the types of fields.
+/// Returns the first actor found in values of the types of fields.
 #[cycle(wanted)]
 fn wanted_in_fields(
     values: &Values,
@@ -120,7 +121,7 @@ fn wanted_in_fields(
     }
 }
 
-/// The first missing actor in the values of parameters.
+/// Returns the first missing actor in the values of parameters.
 pub fn missing(
     schema: &Schema,
     own: &EndReading<'_>,
@@ -139,7 +140,7 @@ pub fn all_live(schema: &Schema, own: &EndReading<'_>, params: &[ParamRow], valu
     wanted_in_fields(values, schema, own, ActorQuery::Dead, params).is_none()
 }
 
-/// Whether a type is one of actors that has null.
+/// Whether a type is a nullable one of actors.
 fn is_nullable(shape: Option<&Shape>) -> bool
     ensures { result ≡ nulled.is_nullable (option_copied shape.entry) }
 {
@@ -149,7 +150,7 @@ fn is_nullable(shape: Option<&Shape>) -> bool
     }
 }
 
-/// What stands for an actor of a type: null where it does not live and the type has null.
+/// Returns an actor of a type, or null if the actor does not live and the type is nullable.
 fn nulled_id(own: &EndReading<'_>, shape: Option<&Shape>, id: i32) -> i32
     ensures { result ≡ nulled.nulled_id (lives (end_view own.now)) (option_copied shape.entry) id }
 {

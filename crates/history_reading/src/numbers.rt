@@ -1,3 +1,4 @@
+//! Lists of numbers, with a quick test of whether a number is in one.
 ghost use Rattle.std.specs.Prelude.{◌≡◌, ◌∷◌, ◌++◌, [], OnOk};
 ghost use Rattle.history_reading.specs.Numbers.{has};
 
@@ -5,7 +6,8 @@ use std::alloc::{AllocError, Global};
 use std::collections::HashSet;
 use std::marker::Model;
 
-/// Numbers in their order, which contracts see as a list, with a quick test of whether one is there.
+/// Numbers in their order. Contracts see them as a list. Whether a number is in it is tested
+/// quickly.
 #[derive(Drop)]
 pub struct NumberList {
     list: Vec<i32>,
@@ -24,7 +26,7 @@ impl Model for NumberList {
 }
 
 impl NumberList {
-    /// No numbers. Takes no memory.
+    /// Returns a list without numbers. Takes no memory.
     pub fn new(alloc: Global) -> NumberList
         ensures { result ≡ [] }
     {
@@ -34,7 +36,7 @@ impl NumberList {
         }
     }
 
-    /// Puts a number last.
+    /// Appends a number.
     pub fn push(&mut self, n: i32) -> Result<(), AllocError>
         ensures { OnOk result (self.new ≡ self.old ++ n ∷ []) }
     {
@@ -46,7 +48,7 @@ impl NumberList {
         Ok(())
     }
 
-    /// Whether a number is there.
+    /// Whether a number is in the list.
     pub fn has(&self, n: i32) -> bool
         ensures { result ≡ has self.now n }
     {

@@ -1,6 +1,7 @@
+//! The parts of a reading: packets, actors, requests, calls, frames and events.
 use ipdl_base::Destroy;
 
-/// What a line of a delivery shows of a packet: its kind, with the number of its request.
+/// What the line of a delivery shows of a packet: its kind, with the number of its request.
 #[derive(Clone, Copy)]
 pub enum PacketKind {
     Request(i32),
@@ -9,14 +10,14 @@ pub enum PacketKind {
     Broken,
 }
 
-/// An actor that was built at an end, with the actor under which it was.
+/// An actor that was built at an end, with its manager.
 #[derive(Clone, Copy)]
 pub struct BuiltActor {
     pub id: i32,
     pub manager: i32,
 }
 
-/// Where an actor stands among those that were built, and the actor that manages it.
+/// The place of an actor among those that were built, and its manager.
 #[derive(Clone, Copy)]
 pub struct ActorPlace {
     pub place: usize,
@@ -48,21 +49,22 @@ pub enum CallFrame {
     Answered(Call),
 }
 
-/// What the laws look at of an event of an end.
+/// What the laws depend on of an event of an end.
 #[derive(Clone, Copy)]
 pub enum EventKind {
     /// A request of this number is sent to this actor.
     Sends(i32, i32),
     /// The other end's request of this number is handled at this actor.
     Takes(i32, i32),
-    /// The end of the other end is delivered.
+    /// The end of the other side is delivered.
     Ends,
     /// The end closes.
     Closes,
     Other,
 }
 
-/// Why actors fall in an event: none does, that of a destructor does with all below it, or all do.
+/// Why actors fall in an event: no actor does, that of a destructor does with its subtree, or all
+/// do.
 #[derive(Clone, Copy)]
 pub enum Cause {
     Nobody,

@@ -1,3 +1,4 @@
+//! What is read of both ends.
 ghost use Rattle.std.specs.Prelude.{◌≡◌, OnOk, IfOk};
 ghost use Rattle.ipdl_base.specs.Sound.{IsSound};
 ghost use Rattle.history_reading.specs.EndReadings.{end_view};
@@ -8,8 +9,8 @@ use crate::end_reading::EndReading;
 use ipdl_base::{Line, Schema, Side, What, is_effect};
 use std::alloc::{AllocError, Global};
 
-/// What is read from the lines of a history, end by end; the end of the last event, and how
-/// many lines there were.
+/// What is read from the lines of a history, end by end, with the side of the last event and the
+/// number of lines.
 #[derive(Drop)]
 pub struct Reading<'h> {
     pub parent: EndReading<'h>,
@@ -19,7 +20,7 @@ pub struct Reading<'h> {
 }
 
 impl<'h> Reading<'h> {
-    /// The reading of no lines.
+    /// Returns the reading of no lines.
     pub fn new(alloc: Global) -> Result<Reading<'h>, AllocError>
         ensures { IfOk result (λ reading. reading_view reading ≡ read.opening_reading) }
     {
@@ -31,7 +32,7 @@ impl<'h> Reading<'h> {
         })
     }
 
-    /// What is read of an end.
+    /// Returns what is read of an end.
     pub fn end(&self, side: Side) -> &EndReading<'h>
         ensures { end_view result.now ≡ read.end_reading_of side (reading_view self.now) }
     {
@@ -41,7 +42,7 @@ impl<'h> Reading<'h> {
         }
     }
 
-    /// What is read of the other end.
+    /// Returns what is read of the other end.
     pub fn other(&self, side: Side) -> &EndReading<'h>
         ensures { end_view result.now ≡ read.other_of side (reading_view self.now) }
     {
@@ -51,7 +52,7 @@ impl<'h> Reading<'h> {
         }
     }
 
-    /// What a line at an end says is read.
+    /// Reads what a line of an end states.
     fn note_at(&mut self, schema: &Schema, side: Side, what: &'h What) -> Result<(), AllocError>
         requires { IsSound schema.now }
         ensures { OnOk result (reading_view self.new ≡ read.after_at schema.now side what.now (reading_view self.old)) }
@@ -66,7 +67,7 @@ impl<'h> Reading<'h> {
         Ok(())
     }
 
-    /// One more line is read.
+    /// Reads one more line.
     pub fn note(&mut self, schema: &Schema, line: &'h Line) -> Result<(), AllocError>
         requires { IsSound schema.now }
         ensures { OnOk result (reading_view self.new ≡ read.after schema.now (reading_view self.old) line.now) }
@@ -75,7 +76,7 @@ impl<'h> Reading<'h> {
     }
 }
 
-/// The end of the last event behind a line of an end.
+/// Returns the side of the last event after a line of an end.
 fn last_after(what: &What, side: Side, before: Option<Side>) -> Option<Side>
     ensures { result ≡ read.last_after what.now side before }
 {

@@ -1,3 +1,4 @@
+//! The properties of messages, by the rows of a schema.
 ghost use Rattle.std.specs.Prelude.{◌≡◌, option_map};
 ghost use Rattle.ipdl_base.specs.Sound.{IsSound, message_of};
 ghost use Rattle.history_reading.specs.Rows as rows;
@@ -70,7 +71,7 @@ pub fn is_constructor(schema: &Schema, number: u32) -> bool
     }
 }
 
-/// Why actors fall in the event of a message that goes to an actor.
+/// Returns why actors fall in the event of a message that goes to an actor.
 fn kind_cause(kind: Kind, route: i32) -> Cause
     ensures { result ≡ rows.kind_cause kind route }
 {
@@ -80,7 +81,7 @@ fn kind_cause(kind: Kind, route: i32) -> Cause
     }
 }
 
-/// Why actors fall in the event of the message of a number that goes to an actor.
+/// Returns why actors fall in the event of the message of a number that goes to an actor.
 pub fn delete_cause(schema: &Schema, number: u32, route: i32) -> Cause
     requires { IsSound schema.now }
     ensures { result ≡ rows.delete_cause schema.now number route }

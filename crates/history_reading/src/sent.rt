@@ -1,3 +1,4 @@
+//! The packets that an end has sent, with a quick way to a request by its number.
 ghost use Rattle.std.specs.Prelude.{◌≡◌, ◌∷◌, ◌++◌, [], OnOk, OnErr, List, option_map};
 ghost use Rattle.std.specs.HashMap.{IsUnchanged};
 ghost use Rattle.history_reading.specs.declared.sent_packet.SentPacket as declared;
@@ -9,8 +10,8 @@ use std::alloc::{AllocError, Global};
 use std::collections::HashMap;
 use std::marker::Model;
 
-/// The packets that an end has sent in their order, which contracts see as a list, with a quick way to
-/// the first request of a number.
+/// The packets that an end has sent, in their order. Contracts see them as a list. The first
+/// request of a number is found quickly.
 #[derive(Drop)]
 pub struct SentList<'h> {
     all: Vec<SentPacket<'h>>,
@@ -34,7 +35,7 @@ impl<'h> Model for SentList<'h> {
 }
 
 impl<'h> SentList<'h> {
-    /// No packets. Takes no memory.
+    /// Returns a list without packets. Takes no memory.
     pub fn new(alloc: Global) -> SentList<'h>
         ensures { result ≡ [] }
     {
@@ -44,7 +45,7 @@ impl<'h> SentList<'h> {
         }
     }
 
-    /// Puts a packet last.
+    /// Appends a packet.
     pub fn push(&mut self, told: SentPacket<'h>) -> Result<(), AllocError>
         ensures { OnOk result (self.new ≡ self.old ++ told.entry ∷ []) }
     {
@@ -56,14 +57,14 @@ impl<'h> SentList<'h> {
         Ok(())
     }
 
-    /// The packets, the oldest first.
+    /// Returns the packets, the oldest first.
     pub fn as_slice(&self) -> &[SentPacket<'h>]
         ensures { result.now ≡ self.now }
     {
         self.all.as_slice()
     }
 
-    /// The first request of a number.
+    /// Returns the first request of a number.
     pub fn request(&self, n: i32) -> Option<Request<'h>>
         ensures { option_map request_view result ≡ request_of (sent_view self.now) n }
     {
@@ -71,7 +72,7 @@ impl<'h> SentList<'h> {
     }
 }
 
-/// Puts a request into a map that has none of its number.
+/// Adds a request to a map that has no request of its number.
 fn insert_first<'h>(
     requests: &mut HashMap<i32, Request<'h>>,
     request: &Request<'h>,
@@ -85,7 +86,7 @@ fn insert_first<'h>(
     Ok(())
 }
 
-/// Puts the request that a packet is into a map that has none of its number.
+/// Adds the request that a packet is to a map that has no request of its number.
 fn note_request<'h>(
     requests: &mut HashMap<i32, Request<'h>>,
     told: &SentPacket<'h>,

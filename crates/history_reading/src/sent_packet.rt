@@ -1,8 +1,10 @@
+//! Packets as lines show them.
 use ipdl_base::{Reason, Values};
 
-/// A request of an end, by its line: its number, its transaction (0 where its line has none), whether
-/// its message is sync and whether it is async with returns, the actor that it goes to, its message,
-/// the how-manyeth actor of its sender it makes (0 where it makes none), and its values.
+/// A request of an end, by its line: its number, its transaction (0 if its line has none), whether
+/// its message is sync and whether it is async with returns, the actor that it goes to, its
+/// message, the rank of the actor that it makes among those of its sender (0 if it makes none), and
+/// its values.
 #[derive(Clone, Copy)]
 pub struct Request<'h> {
     pub seq: i32,
@@ -15,7 +17,8 @@ pub struct Request<'h> {
     pub values: &'h Values,
 }
 
-/// What a reply says: what a handler did with a resolver, or what a return or the channel answered.
+/// What a reply states: what a handler did with a resolver, or what a return or the channel
+/// answered.
 #[derive(Clone, Copy)]
 pub enum ReplyContent<'h> {
     Resolved(&'h Values),

@@ -1,3 +1,4 @@
+//! The stack of an end, as its lines show it.
 ghost use Rattle.std.specs.Prelude.{◌≡◌, ◌∷◌, [], OnOk, OnErr, find, slice_get, option_map, reverse};
 ghost use Rattle.std.specs.List.{list_any};
 ghost use Rattle.history_reading.specs.EndReading.{awaited, awaits, frame_seq, has_unanswered, is_unanswered, is_wait_for};
@@ -15,7 +16,7 @@ impl CallFrame {
         matches!(self, CallFrame::Unanswered(_))
     }
 
-    /// The number of the frame's request.
+    /// Returns the number of the frame's request.
     pub fn seq(&self) -> i32
         ensures { result ≡ frame_seq self.now }
     {
@@ -25,7 +26,7 @@ impl CallFrame {
         }
     }
 
-    /// Whether the frame is the wait of this number, not answered.
+    /// Whether the frame is the unanswered wait of this number.
     pub fn is_wait_for(&self, n: i32) -> bool
         ensures { result ≡ is_wait_for n self.now }
     {
@@ -37,7 +38,7 @@ impl CallFrame {
 }
 
 impl CallFrame {
-    /// The frame, answered where it is a wait.
+    /// Returns the frame, answered if it is a wait.
     fn answered(self) -> CallFrame
         ensures { result ≡ answered_frame self }
     {
@@ -48,7 +49,7 @@ impl CallFrame {
     }
 }
 
-/// The frames of an end, which contracts see as their list, the innermost first.
+/// The frames of an end. Contracts see them as a list, the innermost first.
 #[derive(Drop)]
 pub struct CallStack {
     /// The frames, the outermost first.
@@ -65,7 +66,7 @@ impl Model for CallStack {
 }
 
 impl CallStack {
-    /// No frames. Takes no memory.
+    /// Returns a stack without frames. Takes no memory.
     pub fn new(alloc: Global) -> CallStack
         ensures { result ≡ [] }
     {
@@ -74,7 +75,7 @@ impl CallStack {
         }
     }
 
-    /// Puts a frame on top.
+    /// Pushes a frame.
     pub fn push(&mut self, frame: CallFrame) -> Result<(), AllocError>
         ensures { OnOk result (self.new ≡ frame ∷ self.old) }
     {
@@ -82,42 +83,42 @@ impl CallStack {
         Ok(())
     }
 
-    /// The frame on top.
+    /// Returns the frame on top.
     pub fn top(&self) -> Option<CallFrame>
         ensures { result ≡ slice_get self.now 0 }
     {
         self.frames.last().copied()
     }
 
-    /// The frames, the outermost first.
+    /// Returns the frames, the outermost first.
     pub fn outward(&self) -> &[CallFrame]
         ensures { reverse result.now ≡ self.now }
     {
         self.frames.as_slice()
     }
 
-    /// Takes the top frame off, where there is one.
+    /// Pops the top frame, if there is one.
     pub fn pop(&mut self)
         ensures { self.new ≡ below_top self.old }
     {
         self.frames.pop();
     }
 
-    /// Takes all frames off.
+    /// Removes all frames.
     pub fn clear(&mut self)
         ensures { self.new ≡ [] }
     {
         self.frames.clear();
     }
 
-    /// Answers the innermost unanswered wait of a number, where there is one.
+    /// Answers the innermost unanswered wait of a number, if there is one.
     pub fn answer(&mut self, n: i32)
         ensures { self.new ≡ answered n self.old }
     {
         answer(self.frames.as_mut_slice(), n);
     }
 
-    /// Whether the innermost unanswered wait is that of this number.
+    /// Whether the innermost unanswered wait is the one of this number.
     pub fn awaits(&self, n: i32) -> bool
         ensures { result ≡ awaits self.now n }
     {
@@ -132,7 +133,7 @@ impl CallStack {
     }
 }
 
-/// The number of the last unanswered wait.
+/// Returns the number of the last unanswered wait.
 fn awaited(frames: &[CallFrame]) -> Option<i32>
     ensures { result ≡ awaited (reverse frames.now) }
 {
@@ -140,7 +141,7 @@ fn awaited(frames: &[CallFrame]) -> Option<i32>
     found.map(|frame| frame.seq())
 }
 
-/// Whether the last unanswered wait is that of this number.
+/// Whether the last unanswered wait is the one of this number.
 fn awaits(frames: &[CallFrame], n: i32) -> bool
     ensures { result ≡ awaits (reverse frames.now) n }
 {
@@ -157,7 +158,7 @@ fn has_unanswered(frames: &[CallFrame]) -> bool
     frames.iter().rev().any(|frame| frame.is_unanswered())
 }
 
-/// Answers the last unanswered wait of a number, where there is one.
+/// Answers the last unanswered wait of a number, if there is one.
 fn answer(frames: &mut [CallFrame], n: i32)
     ensures { reverse frames.new ≡ answered n (reverse frames.old) }
 {

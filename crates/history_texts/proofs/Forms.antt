@@ -1,4 +1,4 @@
--- Which form of value a type has, and what of it a text says whose length is not fixed.
+-- The form of the values of a type, and the part of a value that a text gives whose length is not fixed.
 use Rattle.std.proofs.Common.{◌≡◌, ℕ, ◌-◌, ◌<◌, ◌^◌, nat_abs, ℤ, pos, negsuc, ◌≤ℤ◌, List, Option, Some, None, IsSomeAnd, IsTrue, refl, sym, ap, subst, ◌∙◌, arith}
 use Rattle.std.specs.Prelude.{slice_get, option_and_then}
 use Rattle.std.proofs.lemmas.Int.{ints}
@@ -29,7 +29,7 @@ form (value.Array vs) = 7
 form (boxed.Maybe' held) = 8
 form (value.Actor id) = 9
 
--- the form that a type's values have, and 10 where it has none
+-- the form of a type's values, and 10 if it has none
 abbrev builtin_form : BuiltinType → ℕ
 builtin_form builtin.Bool = 0
 builtin_form builtin.Char = 1
@@ -134,7 +134,7 @@ ranged-small builtin.ByteBuf n h = absurd h
 ranged-small builtin.Shmem n h = absurd h
 ranged-small builtin.FileDescriptor n h = absurd h
 
--- what is true of some builtin is true of the one that a type is
+-- what is true of some builtin is true of the builtin of a type
 by-builtin : (P : BuiltinType → Type 0) (Q : Type 0) (found : Option BuiltinType) → ((b : BuiltinType) → found ≡ Some b → P b → Q) → IsSomeAnd found P → Q
 by-builtin P Q None f h = absurd h
 by-builtin P Q (Some b) f h = f b refl h

@@ -29,7 +29,7 @@ use Rattle.history_texts.specs.Typed.{AreTyped, SaysTyped}
 abbrev begin_by : Bool → Side → List ℕ
 begin_by effect side = if effect then codes "  " else side_word side ++ codes " "
 
--- it tells whether it is an effect, and else whose event it is
+-- the beginning of a line shows whether it is an effect, and otherwise whose event it is
 begins-decide : (a b : Bool) (s t : Side) (x y : List ℕ) → begin_by a s ++ x ≡ begin_by b t ++ y → (a ≡ b) × (a ≡ false → s ≡ t) × (x ≡ y)
 begins-decide true true s t x y e = (refl, λ h. absurd (true≢false h), ap (drop 2) e)
 begins-decide true false s sides.Parent x y e = absurd (differ {a = 32} {b = 112} refl e)
@@ -47,12 +47,12 @@ begins-some false sides.Parent x e = cc
 begins-some false sides.Child x e = cc
 
 module _ (schema : Schema) (sound : IsSound schema) where
-  -- what stands behind lines finds what it names
+  -- the messages that lines name, after others, are found
   abbrev AreNamed : List Line → List Line → Type 0
   AreNamed before [] = Unit {0}
   AreNamed before (line ∷ rest) = (finds_names schema (message_of_number line.side before) line.what ≡ true) × AreNamed (before ++ line ∷ []) rest
 
-  -- a line's text with what stands behind, in parts
+  -- the text of a line with what follows, in parts
   parts : (before : List Line) (line : Line) (rest : List ℕ) →
       line_text schema before line ++ rest ≡ begin_by (is_effect line.what) line.side ++ (what_text schema (λ n. returns_named schema (message_of_number line.side before n)) line.what ++ (10 ∷ rest))
   parts before line rest = three (line_begin line) (what_text schema (λ n. returns_named schema (message_of_number line.side before n)) line.what) (codes "\n") rest
@@ -65,7 +65,7 @@ module _ (schema : Schema) (sound : IsSound schema) where
   abbrev Says : List Line → Side → What → Type 0
   Says before side w = SaysTyped schema (λ n. returns_named schema (message_of_number side before n)) w × (finds_names schema (message_of_number side before) w ≡ true)
 
-  -- two lines behind the same lines
+  -- two lines after the same lines
   line-decides : (before : List Line) (last : Option Side) (a b : Line) (r q : List ℕ) → MatchBool (is_effect a.what) (last ≡ Some a.side) (Unit {0}) → MatchBool (is_effect b.what) (last ≡ Some b.side) (Unit {0})
       → Says before a.side a.what → Says before b.side b.what → line_text schema before a ++ r ≡ line_text schema before b ++ q → (a ≡ b) × (r ≡ q)
   line-decides before last a b r q f g s t e =

@@ -178,6 +178,6 @@ module _ (schema : Schema) (sound : IsSound schema) where
       one-protocol (m / 65536) (n / 65536) a.at.protocol b.at.protocol a.at.there b.at.there (sym (protocol-is (m / 65536) a.at.protocol a.at.there) ∙ first.0 ∙ protocol-is (n / 65536) b.at.protocol b.at.there) in
       (same-number m n a b protocol (sym (name-is m a.row a.found) ∙ second.0 ∙ name-is n b.row b.found), second.1)
 
-  -- and a text of one goes on with a point behind a word
+  -- the text of a message begins with a word and continues with a point
   pub message-begins : (n : ℕ) (r : List ℕ) → (rest : List ℕ) × (message_text schema n ++ r ≡ protocol_text schema (n / 65536) ++ (46 ∷ rest))
   message-begins n r = (name_of n ++ r, split n r)

@@ -1,4 +1,5 @@
--- Where two texts are the same, and how each begins decides itself, they begin with the same and go on with the same.
+-- Where two texts are the same, and the beginning of each decides where it ends, they begin with the same and
+-- continue with the same.
 use Rattle.std.proofs.Common.{◌≡◌, ℕ, zero, suc, ◌+◌, ◌*◌, ◌-◌, ◌/◌, ◌%◌, ◌<◌, ◌≤◌, ◌^◌, ◌==◌, nat_lt, nat_le, nat_abs, ℤ, pos, negsuc, Bool, true, false, ◌&&◌, ◌||◌, if◌then◌else◌, List, [], ◌∷◌, ◌++◌, codes, length, drop, refl, sym, ap, subst, ◌∙◌, arith, append_assoc, length-append, ⊎_elim}
 use Rattle.std.specs.Fmt.{decimal, digit_glyph, digits, digits_onto, signed_decimal}
 use Rattle.std.specs.List.{flat_map, list_all}
@@ -7,7 +8,7 @@ use Rattle.std.proofs.lemmas.Bool.Decides.{Decides-ltb, leb_tells}
 use Rattle.std.proofs.lemmas.Fmt.{decimal_injective, decimal_nonempty}
 use Rattle.value_types.specs.ValueText.{hex_digit, hex_byte, hex_digits, escaped}
 
--- a text is at its end, or goes on with a byte that a test refuses
+-- a text is at its end, or continues with a byte that a test refuses
 abbrev pub StopsAt : (ℕ → Bool) → List ℕ → Type 0
 StopsAt ok [] = Unit {0}
 StopsAt ok (b ∷ bs) = ok b ≡ false
@@ -18,7 +19,7 @@ both true false h = cc
 both false true h = cc
 both false false h = cc
 
--- bytes that a test takes, and then one that it refuses
+-- bytes that a test accepts, followed by one that it refuses
 pub spans : (ok : ℕ → Bool) (x y r q : List ℕ) → list_all ok x ≡ true → list_all ok y ≡ true → StopsAt ok r → StopsAt ok q → x ++ r ≡ y ++ q → (x ≡ y) × (r ≡ q)
 spans ok [] [] r q a b s t e = (refl, e)
 spans ok [] (c ∷ y) r q a b s t e =
@@ -62,11 +63,11 @@ either-digits : (b : Bool) (one other : List ℕ) → list_all is_digit one ≡ 
 either-digits true one other h k = h
 either-digits false one other h k = k
 
-onto-digits : (k n : ℕ) (behind : List ℕ) → list_all is_digit behind ≡ true → list_all is_digit (digits_onto k 10 false n behind) ≡ true
-onto-digits zero n behind h = h
-onto-digits (suc k) n behind h =
-    let more : list_all is_digit (digit_glyph false (n % 10) ∷ behind) ≡ true = ap (λ (b : Bool). b && list_all is_digit behind) (glyph-digit (n % 10) (omega arith)) ∙ h in
-    either-digits (n / 10 == 0) (digit_glyph false (n % 10) ∷ behind) (digits_onto k 10 false (n / 10) (digit_glyph false (n % 10) ∷ behind)) more (onto-digits k (n / 10) (digit_glyph false (n % 10) ∷ behind) more)
+onto-digits : (k n : ℕ) (following : List ℕ) → list_all is_digit following ≡ true → list_all is_digit (digits_onto k 10 false n following) ≡ true
+onto-digits zero n following h = h
+onto-digits (suc k) n following h =
+    let more : list_all is_digit (digit_glyph false (n % 10) ∷ following) ≡ true = ap (λ (b : Bool). b && list_all is_digit following) (glyph-digit (n % 10) (omega arith)) ∙ h in
+    either-digits (n / 10 == 0) (digit_glyph false (n % 10) ∷ following) (digits_onto k 10 false (n / 10) (digit_glyph false (n % 10) ∷ following)) more (onto-digits k (n / 10) (digit_glyph false (n % 10) ∷ following) more)
 
 decimal-digits : (n : ℕ) → list_all is_digit (decimal n) ≡ true
 unfolding digits
@@ -153,7 +154,7 @@ bytes-decide (a ∷ s) (b ∷ t) r q e =
     let more = bytes-decide s t r q (ap (drop 2) e) in
     ((let rest = more.0 in cc), more.1)
 
--- lists that are as long
+-- lists of equal length
 pub lengths-decide : {A : Type 0} (x y r q : List A) → length x ≡ length y → x ++ r ≡ y ++ q → (x ≡ y) × (r ≡ q)
 lengths-decide [] [] r q l e = (refl, e)
 lengths-decide [] (b ∷ y) r q l e = absurd (omega (arith, l))
@@ -188,19 +189,19 @@ bits-decide count a b r q h k e =
 
 -- Texts between quotes
 
--- the first byte that an escaped text tells, and what stands behind
+-- the first byte of an escaped text, and what follows it
 abbrev hex_told : List ℕ → ℕ × List ℕ
 hex_told [] = (0, [])
 hex_told (h ∷ []) = (0, [])
 hex_told (h ∷ l ∷ rest) = (16 * hex_value h + hex_value l, rest)
 
-abbrev behind_told : List ℕ → ℕ × List ℕ
-behind_told [] = (0, [])
-behind_told (c ∷ rest) = if c == 34 then (34, rest) else (if c == 92 then (92, rest) else (if c == 110 then (10, rest) else (if c == 116 then (9, rest) else hex_told rest)))
+abbrev after_told : List ℕ → ℕ × List ℕ
+after_told [] = (0, [])
+after_told (c ∷ rest) = if c == 34 then (34, rest) else (if c == 92 then (92, rest) else (if c == 110 then (10, rest) else (if c == 116 then (9, rest) else hex_told rest)))
 
 abbrev told : List ℕ → ℕ × List ℕ
 told [] = (0, [])
-told (c ∷ rest) = if c == 92 then behind_told rest else (c, rest)
+told (c ∷ rest) = if c == 92 then after_told rest else (c, rest)
 
 escaped-told : (byte : ℕ) (rest : List ℕ) → told (escaped byte ++ rest) ≡ (byte, rest)
 escaped-told byte rest = by (byte == 34) (byte == 92) (byte == 10) (byte == 9) (nat_lt byte 32 || (byte == 127)) refl refl refl refl
@@ -215,15 +216,15 @@ escaped-told byte rest = by (byte == 34) (byte == 92) (byte == 10) (byte == 9) (
         let high = hex-value (byte / 16) in
         let low = hex-value (byte % 16) in
         ap (λ (n : ℕ). (n, rest)) (omega (arith, high, low))
-    by false false false false false a b c d = ap (λ (t : Bool). if t then behind_told rest else (byte, rest)) b
+    by false false false false false a b c d = ap (λ (t : Bool). if t then after_told rest else (byte, rest)) b
 
-escaped-isnt : (byte : ℕ) (rest behind : List ℕ) → escaped byte ++ rest ≡ 34 ∷ behind → ⊥
-escaped-isnt byte rest behind e =
+escaped-isnt : (byte : ℕ) (rest following : List ℕ) → escaped byte ++ rest ≡ 34 ∷ following → ⊥
+escaped-isnt byte rest following e =
     let is : byte ≡ 34 = ap (λ (t : ℕ × List ℕ). t.0) (sym (escaped-told byte rest) ∙ ap told e) in
-    let first : escaped 34 ++ rest ≡ 34 ∷ behind = ap (λ (n : ℕ). escaped n ++ rest) (sym is) ∙ e in
+    let first : escaped 34 ++ rest ≡ 34 ∷ following = ap (λ (n : ℕ). escaped n ++ rest) (sym is) ∙ e in
     cc
 
--- what stands between quotes
+-- the bytes between quotes
 pub texts-decide : (s t r q : List ℕ) → flat_map escaped s ++ 34 ∷ r ≡ flat_map escaped t ++ 34 ∷ q → (s ≡ t) × (r ≡ q)
 texts-decide [] [] r q e = (refl, ap (drop 1) e)
 texts-decide [] (b ∷ t) r q e = absurd (escaped-isnt b (flat_map escaped t ++ 34 ∷ q) r (sym (append_assoc (escaped b) (flat_map escaped t) (34 ∷ q)) ∙ sym e))

@@ -1,4 +1,4 @@
--- The text of a line tells its form.
+-- The text of a line determines its form.
 use Rattle.std.proofs.Common.{◌≡◌, ℕ, ℤ, ◌/◌, ◌==◌, Bool, true, false, ◌&&◌, if◌then◌else◌, List, [], ◌∷◌, ◌++◌, codes, drop, refl, ap, ◌∙◌, append_assoc}
 use Rattle.std.specs.Fmt.{signed_decimal}
 use Rattle.std.specs.List.{list_all}
@@ -22,40 +22,40 @@ begins [] text = true
 begins (c ∷ word) [] = false
 begins (c ∷ word) (b ∷ text) = (c == b) && begins word text
 
--- a text behind all first bytes that a test takes
-abbrev behind : (ℕ → Bool) → List ℕ → List ℕ
-behind ok [] = []
-behind ok (b ∷ bs) = if ok b then behind ok bs else b ∷ bs
+-- a text without the first bytes that a test accepts
+abbrev following : (ℕ → Bool) → List ℕ → List ℕ
+following ok [] = []
+following ok (b ∷ bs) = if ok b then following ok bs else b ∷ bs
 
-behind-span : (ok : ℕ → Bool) (x r : List ℕ) → list_all ok x ≡ true → StopsAt ok r → behind ok (x ++ r) ≡ r
-behind-span ok [] [] h s = refl
-behind-span ok [] (b ∷ bs) h s = ap (λ (t : Bool). if t then behind ok bs else b ∷ bs) s
-behind-span ok (b ∷ x) r h s =
+following-span : (ok : ℕ → Bool) (x r : List ℕ) → list_all ok x ≡ true → StopsAt ok r → following ok (x ++ r) ≡ r
+following-span ok [] [] h s = refl
+following-span ok [] (b ∷ bs) h s = ap (λ (t : Bool). if t then following ok bs else b ∷ bs) s
+following-span ok (b ∷ x) r h s =
     let parts = both (ok b) (list_all ok x) h in
-    ap (λ (t : Bool). if t then behind ok (x ++ r) else b ∷ (x ++ r)) parts.0 ∙ behind-span ok x r parts.1 s
+    ap (λ (t : Bool). if t then following ok (x ++ r) else b ∷ (x ++ r)) parts.0 ∙ following-span ok x r parts.1 s
 
 -- The form of a text, by its first words
 
 abbrev take_told : List ℕ → WhatForm
-take_told text = if begins (codes "reply ") (behind is_number_byte text) then form_take_reply else form_take
+take_told text = if begins (codes "reply ") (following is_number_byte text) then form_take_reply else form_take
 
 abbrev resume_told : List ℕ → WhatForm
-resume_told text = if begins (codes " ok ") (behind is_number_byte text) then form_resume_ok else form_resume_fault
+resume_told text = if begins (codes " ok ") (following is_number_byte text) then form_resume_ok else form_resume_fault
 
 abbrev answer_told : List ℕ → WhatForm
-answer_told text = if begins (codes " ok ") (behind is_number_byte text) then form_answer_ok else form_answer_fault
+answer_told text = if begins (codes " ok ") (following is_number_byte text) then form_answer_ok else form_answer_fault
 
 abbrev settle_told : List ℕ → WhatForm
-settle_told text = if begins (codes " resolved ") (behind is_number_byte text) then form_resolved else form_rejected
+settle_told text = if begins (codes " resolved ") (following is_number_byte text) then form_resolved else form_rejected
 
 abbrev act_told : List ℕ → WhatForm
 act_told text =
-    if begins (codes ".") (behind is_word_byte text) then form_refused_send else
+    if begins (codes ".") (following is_word_byte text) then form_refused_send else
     (if begins (codes "close") text then form_refused_close else
     (if begins (codes "resolve") text then form_refused_resolve else form_refused_reject))
 
 abbrev refused_told : List ℕ → WhatForm
-refused_told text = act_told (drop 1 (behind is_word_byte text))
+refused_told text = act_told (drop 1 (following is_word_byte text))
 
 abbrev pub form_told : List ℕ → WhatForm
 form_told text =
@@ -91,9 +91,9 @@ form_told text =
 pub three : (a b c r : List ℕ) → a ++ b ++ c ++ r ≡ a ++ (b ++ (c ++ r))
 three a b c r = append_assoc (a ++ b) c r ∙ append_assoc a b (c ++ r)
 
--- behind a number stands what stands behind it
-behind-number : (n : ℤ) (b c r : List ℕ) → StopsAt is_number_byte (b ++ (c ++ r)) → behind is_number_byte (signed_decimal n ++ b ++ c ++ r) ≡ b ++ (c ++ r)
-behind-number n b c r s = ap (behind is_number_byte) (three (signed_decimal n) b c r) ∙ behind-span is_number_byte (signed_decimal n) (b ++ (c ++ r)) (signed-numbers n) s
+-- what follows a number is what was put after it
+following-number : (n : ℤ) (b c r : List ℕ) → StopsAt is_number_byte (b ++ (c ++ r)) → following is_number_byte (signed_decimal n ++ b ++ c ++ r) ≡ b ++ (c ++ r)
+following-number n b c r s = ap (following is_number_byte) (three (signed_decimal n) b c r) ∙ following-span is_number_byte (signed_decimal n) (b ++ (c ++ r)) (signed-numbers n) s
 
 refusal-words : (cause : SendRefusal) → list_all is_word_byte (refusal_word cause) ≡ true
 refusal-words causes.Closed = refl
@@ -106,26 +106,26 @@ refusal-words causes.TooLarge = refl
 refusal-words causes.InCall = refl
 refusal-words causes.DeadValue = refl
 
--- behind a cause stands the act
-behind-cause : (cause : SendRefusal) (act r : List ℕ) → StopsAt is_word_byte (act ++ r) → behind is_word_byte (refusal_word cause ++ act ++ r) ≡ act ++ r
-behind-cause cause act r s = ap (behind is_word_byte) (append_assoc (refusal_word cause) act r) ∙ behind-span is_word_byte (refusal_word cause) (act ++ r) (refusal-words cause) s
+-- an act follows a cause
+following-cause : (cause : SendRefusal) (act r : List ℕ) → StopsAt is_word_byte (act ++ r) → following is_word_byte (refusal_word cause ++ act ++ r) ≡ act ++ r
+following-cause cause act r s = ap (following is_word_byte) (append_assoc (refusal_word cause) act r) ∙ following-span is_word_byte (refusal_word cause) (act ++ r) (refusal-words cause) s
 
 module _ (schema : Schema) (sound : IsSound schema) where
   send-told : (number : ℕ) (r : List ℕ) → act_told (message_text schema number ++ r) ≡ form_refused_send
   send-told number r =
       let parts = message-begins schema sound number r in
-      ap (λ (text : List ℕ). if begins (codes ".") (behind is_word_byte text) then form_refused_send else (if begins (codes "close") (message_text schema number ++ r) then form_refused_close else (if begins (codes "resolve") (message_text schema number ++ r) then form_refused_resolve else form_refused_reject))) parts.1
+      ap (λ (text : List ℕ). if begins (codes ".") (following is_word_byte text) then form_refused_send else (if begins (codes "close") (message_text schema number ++ r) then form_refused_close else (if begins (codes "resolve") (message_text schema number ++ r) then form_refused_resolve else form_refused_reject))) parts.1
       ∙ ap (λ (text : List ℕ). if begins (codes ".") text then form_refused_send else (if begins (codes "close") (message_text schema number ++ r) then form_refused_close else (if begins (codes "resolve") (message_text schema number ++ r) then form_refused_resolve else form_refused_reject)))
-      (behind-span is_word_byte (protocol_text schema (number / 65536)) (46 ∷ parts.0) (protocol-words schema sound (number / 65536)) refl)
+      (following-span is_word_byte (protocol_text schema (number / 65536)) (46 ∷ parts.0) (protocol-words schema sound (number / 65536)) refl)
 
   pub form-told : (types : ℤ → List ParamRow) (w : What) (r : List ℕ) → form_told (what_text schema types w ++ 10 ∷ r) ≡ what_form w
   form-told types (what.Send n route message vs) r = refl
   form-told types (what.Call n transaction route message vs) r = refl
   form-told types (what.RefusedSend cause message) r =
-      ap (λ (text : List ℕ). act_told (drop 1 text)) (ap (behind is_word_byte) (ap (λ (t : List ℕ). t ++ 10 ∷ r) (append_assoc (refusal_word cause) (codes " ") (message_text schema message))) ∙ behind-cause cause (codes " " ++ message_text schema message) (10 ∷ r) refl) ∙ send-told message (10 ∷ r)
-  form-told types (what.RefusedClose cause) r = ap (λ (text : List ℕ). act_told (drop 1 text)) (behind-cause cause (codes " close") (10 ∷ r) refl)
-  form-told types (what.RefusedResolve cause) r = ap (λ (text : List ℕ). act_told (drop 1 text)) (behind-cause cause (codes " resolve") (10 ∷ r) refl)
-  form-told types (what.RefusedReject cause) r = ap (λ (text : List ℕ). act_told (drop 1 text)) (behind-cause cause (codes " reject") (10 ∷ r) refl)
+      ap (λ (text : List ℕ). act_told (drop 1 text)) (ap (following is_word_byte) (ap (λ (t : List ℕ). t ++ 10 ∷ r) (append_assoc (refusal_word cause) (codes " ") (message_text schema message))) ∙ following-cause cause (codes " " ++ message_text schema message) (10 ∷ r) refl) ∙ send-told message (10 ∷ r)
+  form-told types (what.RefusedClose cause) r = ap (λ (text : List ℕ). act_told (drop 1 text)) (following-cause cause (codes " close") (10 ∷ r) refl)
+  form-told types (what.RefusedResolve cause) r = ap (λ (text : List ℕ). act_told (drop 1 text)) (following-cause cause (codes " resolve") (10 ∷ r) refl)
+  form-told types (what.RefusedReject cause) r = ap (λ (text : List ℕ). act_told (drop 1 text)) (following-cause cause (codes " reject") (10 ∷ r) refl)
   form-told types (what.Resolve n vs) r = refl
   form-told types (what.Reject n) r = refl
   form-told types (what.Keep n name) r = refl
@@ -136,20 +136,20 @@ module _ (schema : Schema) (sound : IsSound schema) where
   form-told types (what.DeliverReply n) r = refl
   form-told types what.DeliverGoodbye r = refl
   form-told types what.DeliverBroken r = refl
-  form-told types (what.Take n route message vs) r = ap (λ (text : List ℕ). if begins (codes "reply ") text then form_take_reply else form_take) (behind-number n (codes " at " ++ signed_decimal route) (codes " " ++ request_text schema message vs) (10 ∷ r) refl)
+  form-told types (what.Take n route message vs) r = ap (λ (text : List ℕ). if begins (codes "reply ") text then form_take_reply else form_take) (following-number n (codes " at " ++ signed_decimal route) (codes " " ++ request_text schema message vs) (10 ∷ r) refl)
   form-told types (what.Drop n route message id) r = refl
   form-told types (what.TakeReply n) r = refl
   form-told types what.ShutNormal r = refl
   form-told types what.ShutAbnormal r = refl
   form-told types (what.Return n) r = refl
-  form-told types (what.ResumeOk n vs) r = ap (λ (text : List ℕ). if begins (codes " ok ") text then form_resume_ok else form_resume_fault) (behind-number n (codes " ok ") (listed_values schema (types n) vs) (10 ∷ r) refl)
-  form-told types (what.ResumeFault n reason) r = ap (λ (text : List ℕ). if begins (codes " ok ") text then form_resume_ok else form_resume_fault) (behind-number n (codes " fault ") (reason_word reason) (10 ∷ r) refl)
+  form-told types (what.ResumeOk n vs) r = ap (λ (text : List ℕ). if begins (codes " ok ") text then form_resume_ok else form_resume_fault) (following-number n (codes " ok ") (listed_values schema (types n) vs) (10 ∷ r) refl)
+  form-told types (what.ResumeFault n reason) r = ap (λ (text : List ℕ). if begins (codes " ok ") text then form_resume_ok else form_resume_fault) (following-number n (codes " fault ") (reason_word reason) (10 ∷ r) refl)
   form-told types (what.Flush count) r = refl
   form-told types (what.Built id protocol) r = refl
   form-told types (what.Replaced n) r = refl
-  form-told types (what.AnswerOk n vs) r = ap (λ (text : List ℕ). if begins (codes " ok ") text then form_answer_ok else form_answer_fault) (behind-number n (codes " ok ") (listed_values schema (types n) vs) (10 ∷ r) refl)
-  form-told types (what.AnswerFault n reason) r = ap (λ (text : List ℕ). if begins (codes " ok ") text then form_answer_ok else form_answer_fault) (behind-number n (codes " fault ") (reason_word reason) (10 ∷ r) refl)
+  form-told types (what.AnswerOk n vs) r = ap (λ (text : List ℕ). if begins (codes " ok ") text then form_answer_ok else form_answer_fault) (following-number n (codes " ok ") (listed_values schema (types n) vs) (10 ∷ r) refl)
+  form-told types (what.AnswerFault n reason) r = ap (λ (text : List ℕ). if begins (codes " ok ") text then form_answer_ok else form_answer_fault) (following-number n (codes " fault ") (reason_word reason) (10 ∷ r) refl)
   form-told types (what.Fails n) r = refl
-  form-told types (what.Resolved n vs) r = ap (λ (text : List ℕ). if begins (codes " resolved ") text then form_resolved else form_rejected) (behind-number n (codes " resolved ") (listed_values schema (types n) vs) (10 ∷ r) refl)
-  form-told types (what.Rejected n reason) r = ap (λ (text : List ℕ). if begins (codes " resolved ") text then form_resolved else form_rejected) (behind-number n (codes " rejected ") (reason_word reason) (10 ∷ r) refl)
+  form-told types (what.Resolved n vs) r = ap (λ (text : List ℕ). if begins (codes " resolved ") text then form_resolved else form_rejected) (following-number n (codes " resolved ") (listed_values schema (types n) vs) (10 ∷ r) refl)
+  form-told types (what.Rejected n reason) r = ap (λ (text : List ℕ). if begins (codes " resolved ") text then form_resolved else form_rejected) (following-number n (codes " rejected ") (reason_word reason) (10 ∷ r) refl)
   form-told types (what.Fall id destroy) r = refl

@@ -1,4 +1,4 @@
--- Values of one type with one text are the same, up to where their boxes lie, and what stands behind them is the same.
+-- Values of one type with one text are the same, except for where their boxes are, and what follows them is the same.
 use Rattle.std.proofs.Common.{◌≡◌, ℕ, zero, suc, ◌==◌, get_or, true≢false, ℤ, pos, Bool, true, false, if◌then◌else◌, List, [], ◌∷◌, ◌++◌, codes, drop, Option, Some, None, IsSomeAnd, unwrap_or, refl, sym, ap, subst, ◌∙◌, arith, append_assoc}
 use Rattle.std.specs.Fmt.{decimal, signed_decimal}
 use Rattle.std.specs.List.{flat_map, list_all}
@@ -23,7 +23,7 @@ use Rattle.history_texts.proofs.Forms.{bits-small, form, range-small, same-form}
 use Rattle.history_texts.proofs.Spans.{Stops, bits-decide, bytes-decide, counts-decide, is_number_byte, lengths-decide, numbers-decide, signed-numbers, signed-some, texts-decide}
 use Rattle.history_texts.specs.Held.{AreHeld, IsHeld, IsHeldIn}
 
--- What a value of a form holds; of another form, anything.
+-- The content of a value of a form; for another form, anything.
 
 abbrev bool_in : Value → Bool
 bool_in (value.Bool b) = b
@@ -61,7 +61,7 @@ abbrev maybe_in : Value → Held-Value-Maybe-0
 maybe_in (Maybe' held) = held
 maybe_in _ = None'
 
--- a value of a form, by what it holds
+-- a value of a form, by its content
 abbrev built : ℕ → Value → Value
 built zero v = value.Bool (bool_in v)
 built (suc zero) v = value.Int (int_in v)
@@ -91,14 +91,14 @@ built-again (value.Actor id) = refl
 pub cancelled : (before x y : List ℕ) → before ++ x ≡ before ++ y → x ≡ y
 cancelled before x y e = (lengths-decide before before x y refl e).1
 
--- what stands between two others is told, if the text behind the first is
+-- what is between two other texts is the same, if the text after the first is
 inner : (a b c r b' c' q : List ℕ) → a ++ b ++ c ++ r ≡ a ++ b' ++ c' ++ q → b ++ (c ++ r) ≡ b' ++ (c' ++ q)
 inner a b c r b' c' q e =
     let one : a ++ b ++ c ++ r ≡ a ++ (b ++ (c ++ r)) = append_assoc (a ++ b) c r ∙ append_assoc a b (c ++ r) in
     let other : a ++ b' ++ c' ++ q ≡ a ++ (b' ++ (c' ++ q)) = append_assoc (a ++ b') c' q ∙ append_assoc a b' (c' ++ q) in
     cancelled a (b ++ (c ++ r)) (b' ++ (c' ++ q)) (sym one ∙ e ∙ other)
 
--- two lists that begin with different bytes are not the same
+-- two lists that begin with different bytes are not equal
 pub differ : {a b : ℕ} {x y : List ℕ} → (a == b) ≡ false → a ∷ x ≡ b ∷ y → ⊥
 differ {a} {b} {x} {y} d e =
     let same : a ≡ b = ap (λ (bytes : List ℕ). get_or bytes 0 0) e in
@@ -164,7 +164,7 @@ module _ (s : Schema) where
       by true e = differ {a = 110} {b = 93} refl e
       by false e = differ {a = 35} {b = 93} refl e
 
-  -- the text behind a value in a list stops a number
+  -- the text after a value in a list ends a number
   parts-stop : (fields : List ParamRow) (vs : Values) (r : List ℕ) → Stops r → Stops (parts_text (codes ", ") s fields vs ++ r)
   parts-stop [] vs r st = st
   parts-stop (field ∷ fields) values.Nothing r st = st
@@ -178,7 +178,7 @@ module _ (s : Schema) where
   lead true = codes ", "
   lead false = []
 
-  -- what an element has behind it is no end of an array
+  -- an element and what follows it do not begin with the end of an array
   elements-isnt : (later : Bool) (shape : Shape) (v : Value) (vs : Values) (r q : List ℕ) → HasType s shape v → lead later ++ value_text s shape v ++ elements_text (codes ", ") s shape vs ++ r ≡ 93 ∷ q → ⊥
   elements-isnt true shape v vs r q h e = differ {a = 44} {b = 93} refl e
   elements-isnt false shape v vs r q h e = value-isnt shape v (elements_text (codes ", ") s shape vs ++ r) q h (sym (append_assoc (value_text s shape v) (elements_text (codes ", ") s shape vs) r) ∙ e)
@@ -187,7 +187,7 @@ module _ (s : Schema) where
   fields-found None vs h = absurd h
   fields-found (Some fields) vs h = h
 
-  -- what stands under a type that is found
+  -- the value of a type that is found
   shape-found : (found : Option Shape) (v w : Value) (r q : List ℕ) → ((shape : Shape) → Decide shape v w) → IsSomeAnd found (λ shape. HasType s shape v) → IsSomeAnd found (λ shape. HasType s shape w) → IsHeld v → IsHeld w → Stops r → Stops q
       → option_map_or (λ shape. value_text s shape v) found [] ++ r ≡ option_map_or (λ shape. value_text s shape w) found [] ++ q → (plain v ≡ plain w) × (r ≡ q)
   shape-found None v w r q d h k i j st sq e = absurd h
@@ -292,7 +292,7 @@ module _ (s : Schema) where
         let rest = elements-decide true shape vs ws r q h.1 k.1 i.1 j.1 first.1 in
         ((λ z. First' one_box (first.0 z) one_box (rest.0 z)), rest.1)
 
-  -- values between brackets, with what stands behind
+  -- values in parentheses, with what follows
   pub listed-decide : (fields : List ParamRow) (vs ws : Values) (r q : List ℕ) → HaveTypes s fields vs → HaveTypes s fields ws → AreHeld vs → AreHeld ws
       → codes "(" ++ values_text s fields vs ++ codes ")" ++ r ≡ codes "(" ++ values_text s fields ws ++ codes ")" ++ q → (plain_values vs ≡ plain_values ws) × (r ≡ q)
   listed-decide fields vs ws r q h k i j e =

@@ -1,4 +1,4 @@
--- The form of what a line says, and what a line of a form says.
+-- The form of the content of a line, and the content of a line of a form.
 use Rattle.std.proofs.Common.{◌≡◌, ℕ, ℤ, pos, List, [], refl}
 use Rattle.ipdl_base.specs.declared.kinds.Destroy.{Destroy}
 use Rattle.ipdl_base.specs.declared.kinds.Destroy.TheVariants as destroys
@@ -81,7 +81,7 @@ what_form (what.Resolved n vs) = form_resolved
 what_form (what.Rejected n reason) = form_rejected
 what_form (what.Fall id destroy) = form_fall
 
--- what a line of a form says of each kind; one of another form, anything
+-- the content of a line of a form, for each kind; for another form, anything
 
 abbrev pub first_in : What → ℤ
 first_in (what.Send n route message vs) = n
@@ -162,7 +162,7 @@ abbrev pub destroy_in : What → Destroy
 destroy_in (what.Fall id destroy) = destroy
 destroy_in _ = destroys.Deletion
 
--- what is said in a form, by what is said of each kind
+-- the content in a form, by the content of each kind
 abbrev pub said : WhatForm → What → What
 said form_send w = what.Send (first_in w) (third_in w) (message_in w) (values_in w)
 said form_call w = what.Call (first_in w) (second_in w) (third_in w) (message_in w) (values_in w)

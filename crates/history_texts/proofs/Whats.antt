@@ -1,4 +1,4 @@
--- The text of a line decides what it says.
+-- The text of a line determines its content.
 use Rattle.std.proofs.Common.{◌≡◌, ℕ, ℤ, true, if◌then◌else◌, List, ◌∷◌, ◌++◌, codes, drop, Option, refl, sym, ap, subst, ◌∙◌, arith, append_assoc}
 use Rattle.std.specs.Fmt.{signed_decimal}
 use Rattle.std.specs.List.{list_all}
@@ -27,7 +27,7 @@ use Rattle.history_texts.proofs.WhatForms.{WhatForm, cause_in, destroy_in, first
 use Rattle.history_texts.specs.Held.{IsNumber}
 use Rattle.history_texts.specs.Typed.{AreOf, SaysTyped}
 
--- Words that stand for something, each for another
+-- Words for constants, one for each
 
 module _ {A : Type 0} (word : A → List ℕ) (told : List ℕ → A) (is : (a : A) → told (word a) ≡ a) (all : (a : A) → list_all is_word_byte (word a) ≡ true) where
   word-decides : (a b : A) (r q : List ℕ) → StopsAt is_word_byte r → StopsAt is_word_byte q → word a ++ r ≡ word b ++ q → (a ≡ b) × (r ≡ q)
@@ -116,7 +116,7 @@ destroy-all destroys.AbnormalShutdown = refl
 destroy-decides : (a b : Destroy) (r q : List ℕ) → StopsAt is_word_byte r → StopsAt is_word_byte q → destroy_word a ++ r ≡ destroy_word b ++ q → (a ≡ b) × (r ≡ q)
 destroy-decides = word-decides destroy_word destroy_told destroy-is destroy-all
 
--- A number behind a word, and what stands behind it
+-- A number after a word, and what follows it
 
 number-decides : (word : List ℕ) (m n : ℤ) (r q : List ℕ) → IsNumber m → IsNumber n → Stops r → Stops q → numbered word m ++ r ≡ numbered word n ++ q → (m ≡ n) × (r ≡ q)
 number-decides word m n r q h k s t e =
@@ -312,7 +312,7 @@ module _ (schema : Schema) (sound : IsSound schema) where
         let b = destroy-decides destroy (destroy_in u) (10 ∷ r) (10 ∷ q) refl refl a.1 in
         ((λ z. what.Fall (a.0 z) (b.0 z)), ap (drop 1) b.1)
 
-    -- What two lines say at one end, behind the same lines, is the same if its text is.
+    -- Two lines at one end, after the same lines, have the same content if they have the same text.
     pub whats-decide : (w v : What) (r q : List ℕ) → Says w → Says v → what_text schema types w ++ 10 ∷ r ≡ what_text schema types v ++ 10 ∷ q → (w ≡ v) × (r ≡ q)
     whats-decide w v r q s t e =
         let same : what_form v ≡ what_form w = sym (form-told schema sound types v q) ∙ ap form_told (sym e) ∙ form-told schema sound types w r in

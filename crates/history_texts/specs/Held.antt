@@ -1,4 +1,4 @@
--- What a line and a value of a program hold: numbers of 32 bits where they have such, whatever their types.
+-- What a line and a value of a program can contain: numbers of 32 bits where they have such, whatever their types.
 use Rattle.std.specs.Prelude.{ℕ, ◌<◌, ◌≤◌, ◌^◌, ℤ, nat_abs}
 use Rattle.ipdl_base.specs.declared.value.Value.{Value, Union', Maybe', Held-Value-Maybe-0, None', Some'}
 use Rattle.ipdl_base.specs.declared.value.Value.TheVariants as value
@@ -12,7 +12,7 @@ IsCount n = n < 2 ^ 32
 abbrev pub IsNumber : ℤ → Type 0
 IsNumber n = nat_abs n ≤ 2 ^ 31
 
--- the index of each union and the id of each actor in a value are such
+-- the index of each union and the id of each actor in a value are numbers of 32 bits
 abbrev mutual
   pub IsHeld : Value → Type 0
   IsHeld (value.Bool b) = Unit {0}

@@ -1,4 +1,4 @@
--- What the text of a history tells.
+-- The text of a history determines the history.
 use Rattle.std.specs.Prelude.{◌≡◌, ℕ, List, []}
 use Rattle.ipdl_base.specs.declared.line.Line.{Line}
 use Rattle.ipdl_base.specs.declared.schema.Schema.{Schema}
@@ -7,8 +7,8 @@ use Rattle.history.specs.Text.{transcript_text}
 use Rattle.channel_model.specs.Runs.{IsLegalHistory}
 use Rattle.history_texts.specs.Typed.{AreTyped}
 
--- Under a sound schema two legal histories whose values have their types, and whose names are words, are the same if they
--- have the same text.
+-- Under a sound schema two legal histories whose values have their types, and whose names are words, are equal if
+-- they have the same text.
 abbrev pub TextsTellHistories : Type 0
 TextsTellHistories =
     (schema : Schema) (top other : ℕ) (lines more : List Line) → IsSound schema → IsLegalHistory schema top lines → IsLegalHistory schema other more → AreTyped schema [] lines → AreTyped schema [] more

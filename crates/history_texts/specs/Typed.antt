@@ -14,13 +14,13 @@ use Rattle.history.specs.Messages.{message_of_number}
 use Rattle.history.specs.Text.{returns_named}
 use Rattle.history_texts.specs.Held.{AreHeld, IsCount, IsNumber}
 
--- Values of these types, as memory holds them, with every box at one place.
+-- Values of these types, as memory can contain them, with every box at one place.
 pub record AreOf (schema : Schema) (types : List ParamRow) (vs : Values) : Type 0 where
   pub typed : HaveTypes schema types vs
   pub held : AreHeld vs
   pub plain : plain_values vs ≡ vs
 
--- What a line says has its types: `types` has the returns of the message of a number at its end.
+-- The content of a line has its types. `types` has the returns of the message of a number at its end.
 abbrev pub SaysTyped : Schema → (ℤ → List ParamRow) → What → Type 0
 SaysTyped schema types (what.Send n route message vs) = IsNumber n × IsNumber route × AreOf schema (params_of schema message) vs
 SaysTyped schema types (what.Call n transaction route message vs) = IsNumber n × IsNumber transaction × IsNumber route × AreOf schema (params_of schema message) vs
@@ -56,7 +56,7 @@ SaysTyped schema types (what.Resolved n vs) = IsNumber n × AreOf schema (types 
 SaysTyped schema types (what.Rejected n reason) = IsNumber n
 SaysTyped schema types (what.Fall id destroy) = IsNumber id
 
--- so does each of lines behind others
+-- each of the lines after others has its types
 abbrev pub AreTyped : Schema → List Line → List Line → Type 0
 AreTyped schema before [] = Unit {0}
 AreTyped schema before (line ∷ rest) = SaysTyped schema (λ n. returns_named schema (message_of_number line.side before n)) line.what × AreTyped schema (before ++ line ∷ []) rest

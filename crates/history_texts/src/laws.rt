@@ -1,7 +1,8 @@
+//! The law of texts.
 ghost use Rattle.history_texts.specs.Laws.{TextsTellHistories};
 
-/// The law of texts: a legal history whose values have their types, and whose names are words, is
-/// decided by its text (docs/transcripts.md).
+/// The law of texts: the text of a legal history whose values have their types, and whose names are words,
+/// determines the history (docs/transcripts.md).
 pub fn texts_tell_histories()
     ensures { TextsTellHistories }
 {}

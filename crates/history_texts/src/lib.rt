@@ -1,4 +1,5 @@
-//! What the text of a history tells: the history (docs/transcripts.md). No function that runs.
+//! The text of a history determines the history (docs/transcripts.md). No function of this crate computes
+//! anything.
 #![tactic(auto)]
 
 mod laws;

@@ -1,9 +1,10 @@
--- What a call of a real stream takes.
+-- What a write to a real stream takes.
 use Rattle.std.specs.Prelude.{◌≡◌, ℕ, List, [], take, Option, Some, None}
 use Rattle.std.specs.Io.KnownBytes.{Appends, Keeps}
 use Rattle.host_io.specs.declared.streams.RealSink.{RealSink}
 
--- A stream that says what it holds has the first n bytes of the piece after that where it took n, and else holds what it did.
+-- If the contents of a stream are known, a write that takes n bytes appends the first n bytes of the piece, and any other
+-- write changes nothing.
 abbrev pub Puts : Option ℕ → Option (List ℕ) → Option (List ℕ) → List ℕ → Type 0
 Puts (Some n) old new piece = Appends old new (take n piece)
 Puts None old new piece = Keeps old new
@@ -12,7 +13,7 @@ Puts None old new piece = Keeps old new
 abbrev pub bytes_of : {W : Type 0} → RealSink W → List ℕ
 bytes_of sink = sink.log.bytes
 
--- how many of them failed
+-- the number of these writes that failed
 abbrev pub faults_of : {W : Type 0} → RealSink W → ℕ
 faults_of sink = sink.faults
 

@@ -1,4 +1,4 @@
-//! Real files. No contract says what a disk has; that of a read says that all bytes which it got are given.
+//! Real files. No contract says what is on a disk; the contract of a read says that it gives all bytes that it got.
 ghost use Rattle.std.specs.Prelude.{◌≡◌, ◌<◌, IfOk, IfSome, None, Some, length};
 ghost use Rattle.ipdl_base.specs.Outside.{HasAtMost, IsHeldWithin};
 ghost use Rattle.host_io.specs.OpenedFiles.{IsFoundIn};
@@ -8,17 +8,17 @@ use std::alloc::Global;
 use std::fs::File;
 use std::io::{ErrorKind, Read};
 
-/// The real files. An error of a read that is not that the file does not exist is counted.
+/// The real files. Counts the reads that fail with another error than that the file does not exist.
 #[derive(Drop)]
 pub struct RealFiles<'r, R> {
     rt: &'r R,
     faults: u64,
-    /// Where a piece of a file is read to.
+    /// The buffer for a piece of a file.
     piece: [u8; 4096],
 }
 
 impl<'r, R: std::rt::Files> RealFiles<'r, R> {
-    /// Creates the files of this runtime, none of whose reads failed yet.
+    /// Creates the files of this runtime, with no failed reads.
     pub fn new(rt: &'r R) -> RealFiles<'r, R> {
         RealFiles {
             rt,
@@ -28,11 +28,11 @@ impl<'r, R: std::rt::Files> RealFiles<'r, R> {
     }
 }
 
-/// Reads the bytes that are left of a file, at most `limit`.
+/// Reads the rest of a file, at most `limit` bytes.
 ///
 /// # Errors
 ///
-/// `Failure::ReadFault` where a read failed, and `Failure::NoMemory`.
+/// `Failure::ReadFault` if a read failed, and `Failure::NoMemory` if memory ran out.
 fn read_all<F: Read>(
     alloc: Global,
     file: &mut F,
@@ -59,11 +59,11 @@ fn read_all<F: Read>(
     Err(Failure::ReadFault)
 }
 
-/// Opens the file of this name, if it is there.
+/// Opens the file of this name, if it exists.
 ///
 /// # Errors
 ///
-/// `Failure::NoMemory` where the system says that memory ran out, and else `Failure::ReadFault`.
+/// `Failure::NoMemory` if the system reports that memory ran out, and otherwise `Failure::ReadFault`.
 fn open_file<R: std::rt::Files>(rt: &R, name: &str) -> Result<Option<R::File>, Failure> {
     match File::open(rt, name) {
         Ok(file) => Ok(Some(file)),
@@ -73,7 +73,7 @@ fn open_file<R: std::rt::Files>(rt: &R, name: &str) -> Result<Option<R::File>, F
     }
 }
 
-/// Reads what an opened file has, of which at most `limit` bytes are given, or finds that there is none.
+/// Reads an opened file, at most `limit` bytes, or returns that there is no file.
 ///
 /// # Errors
 ///
@@ -94,7 +94,7 @@ fn read_opened<F: Read + Drop>(
     }
 }
 
-/// Reads the file of this name, if it is there.
+/// Reads the file of this name, if it exists.
 ///
 /// # Errors
 ///
@@ -113,7 +113,7 @@ fn read_file<R: std::rt::Files>(
 }
 
 impl<R: std::rt::Files> Files for RealFiles<'_, R> {
-    ghost told = { λ _. None };
+    ghost known = { λ _. None };
 
     ghost faults = { λ f. f.faults };
 

@@ -1,5 +1,5 @@
-//! The files and the streams of the machine, as `ipdl_base` has them: what a read gives and what a write takes, with the
-//! failures of each counted, and the bytes that writes took recorded for contracts (docs/theorems.md, "The outside").
+//! The files and the streams of the machine, as `Files` and `Sink` of `ipdl_base`. Failed reads and writes are counted, and
+//! the bytes that writes took are recorded for contracts (docs/theorems.md, "The outside").
 #![tactic(auto)]
 
 mod files;

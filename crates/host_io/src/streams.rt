@@ -6,8 +6,8 @@ use crate::write_log::{StreamWrite, WriteLog};
 use ipdl_base::{Sink, WriteAnswer};
 use std::io::{ErrorKind, Write};
 
-/// A real stream. An error of a write is counted, and so is a write that takes nothing. What the writes took is kept for
-/// contracts alone.
+/// A real stream. Counts the writes that fail, and those that take no byte of a piece that has some. The bytes that the
+/// writes took are recorded for contracts alone.
 #[derive(Drop)]
 pub struct RealSink<W> {
     writer: W,
@@ -18,7 +18,7 @@ pub struct RealSink<W> {
 impl<W: Write> RealSink<W> {
     ghost use Rattle.host_io.specs.Streams.{IsUnused};
 
-    /// Wraps a stream to which nothing was written yet.
+    /// Wraps a stream, with no bytes written and no failed writes.
     pub fn new(writer: W) -> RealSink<W>
         ensures { IsUnused result }
     {
@@ -30,8 +30,8 @@ impl<W: Write> RealSink<W> {
     }
 }
 
-/// Writes a prefix of a piece to a stream, and gives its length, or nothing where the stream fails or takes no byte of a
-/// piece that has some.
+/// Writes a prefix of a piece to a stream, and returns its length, or `None` if the stream fails or takes no byte of a piece
+/// that has some.
 fn write_some<W: Write>(writer: &mut W, piece: &[u8]) -> Option<usize>
     ensures bound { IfSome result (λ n. n ≤ length piece.now) }
     ensures some { IfSome result (λ n. 0 < length piece.now → 1 ≤ n) }

@@ -1,11 +1,11 @@
--- What a file is read as is one thing.
+-- A file has one content.
 use Rattle.std.proofs.Common.{◌≡◌, ◌≤◌, ℕ, List, length, refl, sym, ◌∙◌, ap, subst, arith}
 use Rattle.std.specs.Prelude.{Option, Some, None}
 use Rattle.std.proofs.lemmas.Option.{same_Some}
 use Rattle.ipdl_base.specs.declared.finding.Place.{Place}
 use Rattle.ipdl_base.specs.declared.files.TheConstants.{MOST_BYTES}
 use Rattle.ipdl_base.specs.Outside.{HasMore}
-use Rattle.ipdl_lex.specs.declared.token.Lexed.{Lexed}
+use Rattle.ipdl_lex.specs.declared.token.LexedText.{LexedText}
 use Rattle.ipdl_lex.specs.declared.token.LexFault.{LexFault}
 use Rattle.ipdl_lex.specs.Tokens.{IsTokens, IsFault}
 use Rattle.ipdl_syntax.specs.declared.tree.FileKind.{FileKind}
@@ -25,13 +25,13 @@ use Rattle.include_graph.proofs.SyntaxPlaces.{one_syntax_place}
 pub record OneAnswer : Type 0 where
   pub one : AtMostOne
   pub fault : (file : ℕ) (text : List ℕ) (a b : LexFault) → IsFault file text a → IsFault file text b → a ≡ b
-  pub never_both : (file : ℕ) (text : List ℕ) (lexed : Lexed) (fault : LexFault) → IsTokens file text lexed → ¬ IsFault file text fault
+  pub never_both : (file : ℕ) (text : List ℕ) (lexed : LexedText) (fault : LexFault) → IsTokens file text lexed → ¬ IsFault file text fault
 
--- what a key holds is one text
+-- a key has one text
 one_text : {held : Option (List ℕ)} {a b : List ℕ} → held ≡ Some a → held ≡ Some b → a ≡ b
 one_text e f = same_Some _ _ (sym e ∙ f)
 
--- nothing is no text
+-- an absent text is not a text
 no_text : {held : Option (List ℕ)} {b : List ℕ} → held ≡ None → held ≡ Some b → ⊥
 no_text e f = cc
 
@@ -45,11 +45,11 @@ module _ (laws : OneAnswer) (number : ℕ) (key : List ℕ) (held : Option (List
       omega arith
 
   -- a text does not have tokens and a fault
-  not_both : {a b : List ℕ} {lexed : Lexed} {fault : LexFault} → held ≡ Some a → IsTokens number a lexed → held ≡ Some b → ¬ IsFault number b fault
+  not_both : {a b : List ℕ} {lexed : LexedText} {fault : LexFault} → held ≡ Some a → IsTokens number a lexed → held ≡ Some b → ¬ IsFault number b fault
   not_both {a} {b} {lexed} {fault} e t f u = laws.never_both number a lexed fault t (subst (λ text. IsFault number text fault) (one_text f e) u)
 
-  -- tokens of two texts are one list
-  same_tokens : {a b : List ℕ} {one other : Lexed} → held ≡ Some a → IsTokens number a one → held ≡ Some b → IsTokens number b other → one ≡ other
+  -- the tokens of equal texts are one list
+  same_tokens : {a b : List ℕ} {one other : LexedText} → held ≡ Some a → IsTokens number a one → held ≡ Some b → IsTokens number b other → one ≡ other
   same_tokens {a} {b} {one} {other} e t f u = laws.one.tokens number a one other t (subst (λ text. IsTokens number text other) (one_text f e) u)
 
   pub absent_is : (c : Content) → IsContent number key held c → held ≡ None → c ≡ Absent
@@ -80,7 +80,7 @@ module _ (laws : OneAnswer) (number : ℕ) (key : List ℕ) (held : Option (List
   no_fault {unit} u f =
       let lexed = same_tokens u.has u.tokens f.has f.tokens in
       let kind = kind_one key u.kind f.kind u.is_kind f.is_kind in
-      f.none (unit, subst (λ (k : FileKind). Tree k f.lexed.tokens unit) kind (subst (λ (l : Lexed). Tree u.kind l.tokens unit) lexed u.tree))
+      f.none (unit, subst (λ (k : FileKind). Tree k f.lexed.tokens unit) kind (subst (λ (l : LexedText). Tree u.kind l.tokens unit) lexed u.tree))
 
   pub fault_is : (c : Content) (place : Place) → IsContent number key held c → HasSyntaxFault number key held place → c ≡ SyntaxFault place
   fault_is Absent place h f = absurd (no_text h f.has)
@@ -89,12 +89,12 @@ module _ (laws : OneAnswer) (number : ℕ) (key : List ℕ) (held : Option (List
   fault_is (SyntaxFault here) place h f =
       let lexed = same_tokens h.has h.tokens f.has f.tokens in
       let kind = kind_one key h.kind f.kind h.is_kind f.is_kind in
-      let longest = subst (λ (k : FileKind). IsSyntaxPlace k f.lexed.tokens h.index) kind (subst (λ (l : Lexed). IsSyntaxPlace h.kind l.tokens h.index) lexed h.longest) in
-      let at = subst (λ (l : Lexed). IsPlaceAt l.tokens l.end h.index here) lexed h.here in
+      let longest = subst (λ (k : FileKind). IsSyntaxPlace k f.lexed.tokens h.index) kind (subst (λ (l : LexedText). IsSyntaxPlace h.kind l.tokens h.index) lexed h.longest) in
+      let at = subst (λ (l : LexedText). IsPlaceAt l.tokens l.end h.index here) lexed h.here in
       ap SyntaxFault (one_syntax_place f.kind f.lexed.tokens f.lexed.end here place h.index f.index longest f.longest at f.here)
   fault_is (Read unit) place h f = absurd (no_fault h f)
 
-  -- the tree that a file is read as is its tree, up to where boxes lie
+  -- the tree in the content of a file is its tree, up to where boxes lie
   pub unit_is : (c : Content) (unit : FileUnit) → IsContent number key held c → IsUnitOf number key held unit → (other : FileUnit) × (c ≡ Read other) × (unboxed unit ≡ unboxed other)
   unit_is Absent unit h u = absurd (no_text h u.has)
   unit_is Large unit h u = absurd (not_large u.has u.small h)
@@ -103,5 +103,5 @@ module _ (laws : OneAnswer) (number : ℕ) (key : List ℕ) (held : Option (List
   unit_is (Read other) unit h u =
       let lexed = same_tokens u.has u.tokens h.has h.tokens in
       let kind = kind_one key u.kind h.kind u.is_kind h.is_kind in
-      let tree = subst (λ (k : FileKind). Tree k h.lexed.tokens unit) kind (subst (λ (l : Lexed). Tree u.kind l.tokens unit) lexed u.tree) in
+      let tree = subst (λ (k : FileKind). Tree k h.lexed.tokens unit) kind (subst (λ (l : LexedText). Tree u.kind l.tokens unit) lexed u.tree) in
       (other, refl, laws.one.tree h.kind h.lexed.tokens unit other tree h.tree)

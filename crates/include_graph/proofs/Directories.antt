@@ -34,7 +34,7 @@ keys_in (d ∷ path) key name own c = elim (head_or_tail (in_directory d key) (m
   | inr tail ↦ keys_in path key name own tail
 ]
 
--- a key and a longer name differ
+-- a key differs from a longer name
 longer : (front key : List ℕ) → key ≡ (front ++ codes "/") ++ key → ⊥
 longer front key e = omega (arith, ap length e, length-append (front ++ codes "/") key, length-append front (codes "/"))
 
@@ -55,7 +55,7 @@ in_other (x ∷ path) d key c = elim (head_or_tail (in_directory x key) (map (λ
   | inr tail ↦ in_more x path d (in_other path d key tail)
 ]
 
--- where no directory stands twice, the name in one is none of those in the directories before it
+-- if no directory is there twice, the name in one differs from those in the directories before it
 pub new_name : (before after : List (List ℕ)) (d key : List ℕ) → AllPairs (λ one other. one ≢ other) (before ++ d ∷ after) → Contains (map (λ x. in_directory x key) before) (in_directory d key) → ⊥
 new_name before after d key once c =
     let there = in_other before d key c in
@@ -67,7 +67,7 @@ new_name before after d key once c =
     seam [] = refl
     seam (x ∷ xs) = seam xs
 
--- names of a key in directories that are left out do not count, where there is no file in them
+-- the names of a key in directories that are left out do not count if these have no file
 without : (files : FileMap) (key x : List ℕ) (path : List (List ℕ)) → is_some (files (in_directory x key)) ≡ false → name_on_path files (filter (λ y. not (is_same x y)) path) key ≡ name_on_path files path key
 without files key x [] none = refl
 without files key x (y ∷ path) none = by_test (is_same x y)
@@ -76,7 +76,7 @@ without files key x (y ∷ path) none = by_test (is_same x y)
     rw (e, absent) (without files key x path none))
     (λ e. rw e (ap (λ rest. cond (is_some (files (in_directory y key))) (Some (in_directory y key)) rest) (without files key x path none)))
 
--- the first name on the path is that in the different directories
+-- the first name on the path is that in the distinct directories
 pub on_different : (files : FileMap) (key : List ℕ) (path : List (List ℕ)) → name_on_path files (different path) key ≡ name_on_path files path key
 on_different files key [] = refl
 on_different files key (x ∷ path) = by_test (is_some (files (in_directory x key)))

@@ -1,4 +1,4 @@
--- Words of files by their kinds, and keys that are cut before their endings.
+-- File words by their kinds, and keys that are cut before their endings.
 use Rattle.std.proofs.Common.{◌≡◌, inl, inr, ℕ, ◌+◌, Bool, true, false, List, ◌++◌, length, take, drop, sym, ◌∙◌, ap, arith}
 use Rattle.std.specs.Bool.{Decides}
 use Rattle.std.proofs.lemmas.Bool.{true≢false}
@@ -35,20 +35,20 @@ back_is key name ending n room e =
     let as_long : n ≡ length name = omega (arith, room, ap length e, length-append name ending) in
     ap (drop n) e ∙ ap (λ k. drop k (name ++ ending)) as_long ∙ drop-append_seam name ending
 
--- where the front is the name, the key has the name before the ending just where the back is the ending
+-- if the first part is the name, the key has the name before the ending exactly if the last part is the ending
 pub split_ends : (key name ending front back : List ℕ) (n : ℕ) (first second : Bool) → n + length ending ≡ length key → front ≡ take n key → back ≡ drop n key → first ≡ is_same front name → first ≡ true → second ≡ is_same back ending → Decides second (key ≡ name ++ ending)
 split_ends key name ending front back n first second room f b one holds two = (
   λ h. sym (take-append-drop n key) ∙ ap (λ xs. xs ++ drop n key) (sym f ∙ (decided front name).0 (sym one ∙ holds)) ∙ ap (λ ys. name ++ ys) (sym b ∙ (decided back ending).0 (sym two ∙ h)),
   λ e. two ∙ (decided back ending).1 (b ∙ back_is key name ending n room e),
 )
 
--- where the front is another, it has not
+-- if the first part is another name, it has not
 pub no_front : (key name ending front : List ℕ) (n : ℕ) (first : Bool) → n + length ending ≡ length key → front ≡ take n key → first ≡ is_same front name → first ≡ false → Decides first (key ≡ name ++ ending)
 no_front key name ending front n first room f one wrong = (
   λ h. absurd (true≢false (sym h ∙ wrong)),
   λ e. one ∙ (decided front name).1 (f ∙ front_is key name ending n room e),
 )
 
--- an equation, told from its other side
+-- an equation with its sides exchanged
 pub turned : {a b : List ℕ} {t : Bool} → Decides t (a ≡ b) → Decides t (b ≡ a)
 turned d = (λ h. sym (d.0 h), λ e. d.1 (sym e))

@@ -7,7 +7,7 @@ use Rattle.ipdl_syntax.specs.declared.program.Entry.{Entry}
 use Rattle.include_graph.specs.declared.walk.ReachedFile.{ReachedFile}
 use Rattle.include_graph.specs.Reading.{IsOfTree, IsEntryFrom, AreEntriesFrom}
 
--- Entries are made of the last keys and files, and these are left.
+-- Entries are made of the last keys and files; the others are left.
 pub record Making (keys : List (List ℕ)) (files : List ReachedFile) (left_keys : List (List ℕ)) (left : List ReachedFile) (program : List Entry) : Type 0 where
   pub done_keys : List (List ℕ)
   pub done : List ReachedFile
@@ -19,7 +19,7 @@ pub record Making (keys : List (List ℕ)) (files : List ReachedFile) (left_keys
 pub making_none : (keys : List (List ℕ)) (files : List ReachedFile) → Making keys files keys files []
 making_none keys files = record { done_keys = []; done = []; all_keys = sym (append-nil keys); all = sym (append-nil files); made = tt }
 
--- one more is
+-- one more entry is made
 pub making_more : (keys : List (List ℕ)) (files : List ReachedFile) (left_keys rest_keys : List (List ℕ)) (left rest : List ReachedFile) (program : List Entry) (key : List ℕ) (file : ReachedFile) (entry : Entry)
     → Making keys files left_keys left program → left_keys ≡ rest_keys ++ key ∷ [] → left ≡ rest ++ file ∷ [] → IsEntryFrom key file entry → Making keys files rest_keys rest (program ++ entry ∷ [])
 making_more keys files left_keys rest_keys left rest program key file entry m a b e = record {

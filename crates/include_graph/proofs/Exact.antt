@@ -1,4 +1,4 @@
--- The findings of the files that are kept are those of the files.
+-- The findings of the files that were read are those of the files.
 use Rattle.std.proofs.Common.{◌≡◌, ◌≢◌, ◌⊎◌, inl, inr, ℕ, ◌<◌, Bool, true, false, IsTrue, nat_lt, List, [], ◌∷◌, ◌++◌, length, is_some, refl, sym, ◌∙◌, ap, subst, arith, true≢false}
 use Rattle.std.specs.Prelude.{Option, Some, None, slice_get, ◌↔◌, IsSome, IsSomeAnd}
 use Rattle.std.specs.List.{AllZip, Any, Contains}
@@ -31,7 +31,7 @@ use Rattle.include_graph.proofs.Contents.{OneAnswer, absent_is, large_is, bad_is
 use Rattle.include_graph.proofs.Places.{the_one}
 use Rattle.include_graph.proofs.WalkEnds.{contains_at, zip_at, first_word, there_is}
 
--- a list of which an element is known, as what holds of some element
+-- an element of a list has a property, so some element has it
 any_at : {X : Type 0} (P : X → Type 0) (xs : List X) (n : ℕ) (x : X) → slice_get xs n ≡ Some x → P x → Any P xs
 any_at P xs n x e p = (n, x, slice_get_within xs n x e, get_or_from_slice_get xs n x x e, p)
 
@@ -55,7 +55,7 @@ module _ (laws : OneAnswer) (given : LoadInput) (keys : List (List ℕ)) (files 
       let f = there_is files number (omega arith) in
       (f.0, f.1, r.each number key f.0 e f.1)
 
-  -- a key has a word just where it is one of the first
+  -- a key has a word exactly if it is one of the first keys
   has_word : (number : ℕ) (key : List ℕ) → slice_get keys number ≡ Some key → (number < length firsts) ↔ IsSome (word_of given.words key)
   has_word number key e =
       let is = first_word given.words first keys r.reached.further firsts number key h r.reached.begins r.reached.once e in (
@@ -73,7 +73,7 @@ module _ (laws : OneAnswer) (given : LoadInput) (keys : List (List ℕ)) (files 
       let c = absent_is laws number key (content given key) f.0.source.content f.2.source.content none in
       ap (λ (o : Option ReachedFile). option_map_or (λ (g : ReachedFile). is_absent g.source.content) o false) f.1 ∙ ap is_absent c
 
-  -- and an absent file has an absent key
+  -- the key of an absent file is absent
   file_absent : (number : ℕ) (key : List ℕ) → slice_get keys number ≡ Some key → is_absent_at files number ≡ true → IsAbsent given key
   file_absent number key e t =
       let f = file_of number key e in
@@ -141,7 +141,7 @@ module _ (laws : OneAnswer) (given : LoadInput) (keys : List (List ℕ)) (files 
       let g = file_of number key at in
       (number, (nat_lt number (length firsts), key, g.0, ((λ t. ltb-true number (length firsts) t), (λ l. lt-ltb number (length firsts) l)), at, g.1, found))
 
-  -- what is found in a file that is read as this
+  -- the findings in a file with this content
   found_as : (number : ℕ) (key : List ℕ) (c : Content) (f : Finding) (at : slice_get keys number ≡ Some key) → let g = file_of number key at in g.0.source.content ≡ c → IsFoundIn files number (nat_lt number (length firsts)) key c g.0.targets.items f → (n : ℕ) × IsFoundOf (length firsts) keys files n f
   found_as number key c f at is found =
       let g = file_of number key at in
@@ -176,7 +176,7 @@ module _ (laws : OneAnswer) (given : LoadInput) (keys : List (List ℕ)) (files 
       by LeftOut i g a e = absurd (g.3 (from_one (named_key i.kind i.name) g.0 g.1 a).0)
       by (File n) i g a e = (absent_file n g.0 g.2 (from_one (named_key i.kind i.name) g.0 g.1 a).1, e)
 
-  -- what holds of a file's tree holds of the tree that it is read as
+  -- a property of a file's tree holds of the tree in its content
   in_unit : (f : Finding) (Holds : List ℕ → FileUnit → Type 0) → ((key : List ℕ) (one other : FileUnit) → unboxed one ≡ unboxed other → Holds key one → Holds key other)
       → ((key : List ℕ) (unit : FileUnit) (targets : List Target) → AllZip (IsTarget keys) unit.includes targets → Holds key unit → IsFoundOfName key unit f ⊎ IsFoundAmong files unit.includes targets f)
       → OfUnit given keys Holds → (n : ℕ) × IsFoundOf (length firsts) keys files n f
@@ -186,11 +186,11 @@ module _ (laws : OneAnswer) (given : LoadInput) (keys : List (List ℕ)) (files 
       let targets = subst (λ (d : Content). AreTargets keys d g.0.targets.items) c.1 g.2.targets in
       found_as number key (Read c.0) f at c.1 (shows key c.0 g.0.targets.items targets (same key unit c.0 c.2 held))
 
-  -- includes hold no boxes
+  -- includes have no boxes
   same_includes : (place : Place) (P : List ℕ → Type 0) (one other : FileUnit) → unboxed one ≡ unboxed other → IncludesAt place P one → IncludesAt place P other
   same_includes place P one other e a = subst (λ (is : List Include). Any (λ i. (i.place ≡ place) × Any P (named_key i.kind i.name)) is) (ap (λ (u : FileUnit). u.includes) e) a
 
-  -- nor does the name of a protocol
+  -- the name of a protocol has no boxes
   same_misnamed : (place : Place) (key : List ℕ) (one other : FileUnit) → unboxed one ≡ unboxed other → IsMisnamedAt place key one → IsMisnamedAt place key other
   same_misnamed place key one other e m = by one.protocol other.protocol (ap (λ (u : FileUnit). u.protocol) e) m
     where

@@ -1,4 +1,4 @@
--- How a list of findings gains more.
+-- How a list of findings grows.
 use Rattle.std.proofs.Common.{◌≡◌, ◌⊎◌, inl, inr, refl, Bool, true, false, IsTrue, ℕ, ◌+◌, ◌<◌, List, [], sym, ◌∙◌, subst, arith}
 use Rattle.std.specs.Prelude.{Some, slice_get, ◌↔◌}
 use Rattle.std.specs.List.{Contains}
@@ -26,7 +26,7 @@ below_more {P} n g h = Gains-like _ _ _ _ (Gains-then _ _ _ _ _ g h)
 pub below_all : {P : ℕ → Finding → Type 0} (n : ℕ) {a b : List Finding} → ((k : ℕ) (f : Finding) → P k f → k < n) → Gains (Below n P) a b → Gains (λ f. (k : ℕ) × P k f) a b
 below_all n within g = Gains-like _ _ _ _ g (λ f p. (p.0, p.2)) (λ f p. (p.0, within p.0 f p.1, p.1))
 
--- what comes of the include of an index
+-- the findings on the include of an index
 pub found_at : (files : List ReachedFile) (includes : List Include) (targets : List Target) (n : ℕ) (i : Include) (t : Target) {a b : List Finding}
     → slice_get includes n ≡ Some i → slice_get targets n ≡ Some t → Gains (IsFoundFor files i t) a b → Gains (IsFoundAt files includes targets n) a b
 found_at files includes targets n i t here there g = Gains-like _ _ _ _ g
@@ -43,7 +43,7 @@ one_answer true false h k = sym (k.1 (h.0 refl))
 one_answer false true h k = h.1 (k.0 refl)
 one_answer false false h k = refl
 
--- what comes of the file of a number
+-- the findings on the file of a number
 pub found_of : (words : ℕ) (keys : List (List ℕ)) (files : List ReachedFile) (n : ℕ) (word : Bool) (key : List ℕ) (file : ReachedFile) {a b : List Finding}
     → (IsTrue word ↔ (n < words)) → slice_get keys n ≡ Some key → slice_get files n ≡ Some file
     → Gains (IsFoundIn files n word key file.source.content file.targets.items) a b → Gains (IsFoundOf words keys files n) a b
@@ -57,6 +57,6 @@ found_of words keys files n word key file is here there g = Gains-like _ _ _ _ g
     (subst (λ (k : List ℕ). IsFoundIn files n p.0 k file.source.content file.targets.items f) two
     (subst (λ (r : ReachedFile). IsFoundIn files n p.0 p.1 r.source.content r.targets.items f) three p.6)))
 
--- a list that gained from nothing has exactly what it gained
+-- a list that was empty has exactly what it gained
 pub from_nothing : {P : Finding → Type 0} {b : List Finding} → Gains P [] b → (f : Finding) → Contains b f ↔ P f
 from_nothing g f = (λ c. elim ((g.exact f).0 c) [ inl old ↦ (let k = old.1 in absurd (omega arith)) | inr p ↦ p ], λ p. (g.exact f).1 (inr p))

@@ -1,4 +1,4 @@
--- How the keys stand while files are read: as a reach of what is named so far.
+-- The keys while files are read: a reach of the keys that are named so far.
 use Rattle.std.proofs.Common.{◌≡◌, ◌≢◌, ◌⊎◌, inl, inr, ℕ, ◌<◌, ◌≤◌, true, false, nat_lt, List, [], ◌∷◌, ◌++◌, length, get_or, refl, sym, ◌∙◌, ap, subst, arith, append_assoc, length-append}
 use Rattle.std.specs.List.{All, AllPairs, Contains, list_any}
 use Rattle.std.proofs.lemmas.Bool.{ltb-true, ltb-false}
@@ -11,8 +11,8 @@ use Rattle.include_graph.specs.Reach.{first_place, IsLeftOut}
 use Rattle.ipdl_base.proofs.Ends.{by_test}
 use Rattle.include_graph.proofs.Places.{among, not_among, found_or_not, place_append, place_within, place_new}
 
--- The keys begin with those of the words, and further ones follow in the order in which they are named first; all that
--- is named is among them, unless it is left out.
+-- The keys begin with those of the words, and further ones follow in the order in which they are named first. All
+-- named keys are among them, unless they are left out.
 pub record Grown (words keys named : List (List ℕ)) : Type 0 where
   pub few : length keys ≤ 4096
   pub once : AllPairs (λ one other. one ≢ other) keys
@@ -22,7 +22,7 @@ pub record Grown (words keys named : List (List ℕ)) : Type 0 where
   pub ordered : AllPairs (λ one other. first_place named one < first_place named other) further
   pub whole : (key : List ℕ) → Contains named key → Contains keys key ⊎ IsLeftOut keys further named key
 
--- a key that is there stays the only one
+-- the keys stay the same when one that is there is named again
 pub add_old : (keys : List (List ℕ)) (k : List ℕ) → list_any (is_same k) keys ≡ true → add_key keys k ≡ keys
 add_old keys k e = rw e refl
 
@@ -41,7 +41,7 @@ add_full keys k full = by_test (list_any (is_same k) keys)
     (λ f. add_past keys k e f))
 
 module _ (words keys named : List (List ℕ)) (k : List ℕ) (g : Grown words keys named) where
-  -- the order of what was named stays, whatever is named behind
+  -- the order of the named keys stays, whatever is named later
   same_order : AllPairs (λ one other. first_place (named ++ k ∷ []) one < first_place (named ++ k ∷ []) other) g.further
   same_order i j d before within =
       let a = place_append named (k ∷ []) (get_or g.further i d) (g.told i d (omega arith)) in
@@ -55,25 +55,25 @@ module _ (words keys named : List (List ℕ)) (k : List ℕ) (g : Grown words ke
   left_still : (key : List ℕ) → Contains named key → IsLeftOut keys g.further named key → IsLeftOut keys g.further (named ++ k ∷ []) key
   left_still key c l = record {
     full = l.full;
-    behind = λ i d within.
+    following = λ i d within.
         let a = place_append named (k ∷ []) (get_or g.further i d) (g.told i d within) in
         let b = place_append named (k ∷ []) key c in
-        let h = l.behind i d within in
+        let h = l.following i d within in
         omega (arith, a, b, h);
   }
 
-  -- what is behind all that was named is left out of a full list
+  -- a key that is named after all others is left out of a full list
   left_new : length keys ≡ 4096 → ¬ Contains named k → IsLeftOut keys g.further (named ++ k ∷ []) k
   left_new full fresh = record {
     full = full;
-    behind = λ i d within.
+    following = λ i d within.
         let a = place_append named (k ∷ []) (get_or g.further i d) (g.told i d within) in
         let w = place_within named (get_or g.further i d) (g.told i d within) in
         let b = place_new named [] k fresh in
         omega (arith, a, b, w);
   }
 
-  -- the keys stay, where the key has its place
+  -- the keys stay the same if the key is there or is left out
   stays : Contains keys k ⊎ IsLeftOut keys g.further (named ++ k ∷ []) k → Grown words keys (named ++ k ∷ [])
   stays here = record {
     few = g.few;

@@ -1,4 +1,4 @@
--- One more text of a list is put into a set.
+-- One more text of a list is added to a set.
 use Rattle.std.proofs.Common.{◌≡◌, ℕ, ◌+◌, ◌<◌, Bool, true, false, not, List, ◌∷◌, [], ◌++◌, length, map, take, get_or, refl, ap, ◌∙◌, string_bytes, String, Global}
 use Rattle.std.proofs.lemmas.List.{take_more, map-append}
 

@@ -1,4 +1,4 @@
--- What the files that are kept make: a program where no rule is broken, and else a report.
+-- The result of the files that were read: a program if no rule is broken, or else a report.
 use Rattle.std.proofs.Common.{◌≡◌, ◌≢◌, inl, inr, ℕ, zero, suc, ◌<◌, List, [], ◌∷◌, ◌++◌, length, map, take, get_or, is_some, refl, sym, ◌∙◌, ap, subst, arith}
 use Rattle.std.specs.Prelude.{Option, Some, None, slice_get, unwrap_or, IfSome, IsSomeAnd, option_map, ◌↔◌}
 use Rattle.std.specs.List.{AllByRecursion, AllPairs, AllZip, Any, Contains}
@@ -53,7 +53,7 @@ named_by (f ∷ files) key c = elim (Contains-append_cases (row_of f.source.cont
   | inr there ↦ (let r = named_by files key there in (suc r.0, r.1, r.2, r.3))
 ]
 
--- and a key that includes name is named by one of them
+-- a key that includes name is named by one of them
 pub included_by : (includes : List Include) (key : List ℕ) → Contains (named_keys includes) key → (n : ℕ) × (i : Include) × (slice_get includes n ≡ Some i) × Contains (named_key i.kind i.name) key
 included_by [] key c = absurd (in_none key c)
 included_by (i ∷ is) key c = elim (Contains-append_cases (named_key i.kind i.name) (named_keys is) key c) [
@@ -80,7 +80,7 @@ same_lists (x ∷ xs) (y ∷ ys) size at =
     let tail : xs ≡ ys = same_lists xs ys (omega arith) (λ n z e. at (suc n) z e) in
     ap (λ z. z ∷ xs) (sym head) ∙ ap (λ zs. y ∷ zs) tail
 
--- where a name leads to bytes it is a name
+-- a name that leads to bytes is there
 read_is : (files : List ℕ → Option (List ℕ)) (o : Option (List ℕ)) (key bytes : List ℕ) → option_and_then files o ≡ Some bytes → o ≡ Some (unwrap_or o key)
 read_is files None key bytes e = absurd (let none : ⊥ = cc in none)
 read_is files (Some name) key bytes e = refl
@@ -105,7 +105,7 @@ entry_at (k ∷ ks) (f ∷ fs) [] n entry m e = elim m [ ]
 entry_at (k ∷ ks) (f ∷ fs) (x ∷ es) zero entry m e = (k, f, refl, refl, subst (IsEntryFrom k f) (same_Some _ _ e) m.0)
 entry_at (k ∷ ks) (f ∷ fs) (x ∷ es) (suc n) entry m e = entry_at ks fs es n entry m.1 e
 
--- where no include is left out the numbers are those of the keys that are named
+-- if no include is left out, the numbers are those of the named keys
 numbers : (keys : List (List ℕ)) (is : List Include) (ts : List Target) → AllZip (IsTarget keys) is ts → ((n : ℕ) (i : Include) → slice_get is n ≡ Some i → ¬ IsTarget keys i LeftOut)
     → (map (slice_get keys) (numbers_of ts) ≡ map Some (named_keys is)) × AllByRecursion (λ n. n < length keys) (numbers_of ts)
 numbers keys [] [] h none = (refl, tt)
@@ -122,7 +122,7 @@ numbers keys (i ∷ is) (File n ∷ ts) h none =
     )
 
 module _ (laws : Laws) (given : LoadInput) (keys : List (List ℕ)) (files : List ReachedFile) (first firsts : List (List ℕ)) (h : HasWords given.words first firsts) (r : AreRead given keys files) where
-  -- the rows of the files are what they name
+  -- the rows of the files are the keys that they name
   rows_named : AreNamed given keys (rows_of files)
   rows_named = record {
     size = length-map files (λ (f : ReachedFile). row_of f.source.content) ∙ r.size;
@@ -145,7 +145,7 @@ module _ (laws : Laws) (given : LoadInput) (keys : List (List ℕ)) (files : Lis
   pub the_reach : IsReach given keys
   the_reach = record { rows = rows_of files; named = rows_named; reached = r.reached }
 
-  -- how a report calls the files
+  -- the names of the files in a report
   pub texts_are : map (λ (f : ReachedFile). f.source.text) files ≡ map (text_of given) keys
   texts_are = same_lists (map (λ (f : ReachedFile). f.source.text) files) (map (text_of given) keys) (length-map files (λ (f : ReachedFile). f.source.text) ∙ (r.size ∙ sym (length-map keys (text_of given)))) (λ n x e.
       let within : n < length files = (let a = slice_get_within (map (λ (f : ReachedFile). f.source.text) files) n x e in omega (arith, length-map files (λ (f : ReachedFile). f.source.text))) in
@@ -202,7 +202,7 @@ module _ (laws : Laws) (given : LoadInput) (keys : List (List ℕ)) (files : Lis
       all_keys : keys_of program ≡ keys
       all_keys = keys_same keys files program made
 
-      -- the entry of a number, with what came of its key
+      -- the entry of a number, with the file of its key
       entry_is : (number : ℕ) (entry : Entry) → slice_get program number ≡ Some entry → (f : ReachedFile) × (slice_get keys number ≡ Some entry.key) × IsReached given keys number entry.key f × IsEntryFrom entry.key f entry
       entry_is number entry e =
           let x = entry_at keys files program number entry made e in
@@ -213,7 +213,7 @@ module _ (laws : Laws) (given : LoadInput) (keys : List (List ℕ)) (files : Lis
             subst (λ k. IsEntryFrom k x.1 entry) (sym key) x.4,
           )
 
-      -- its tree is that of the file
+      -- the entry's tree is that of the file
       unit_of_entry : (number : ℕ) (entry : Entry) (e : slice_get program number ≡ Some entry) → IsUnitOf number entry.key (content given entry.key) entry.unit
       unit_of_entry number entry e =
           let x = entry_is number entry e in
@@ -258,7 +258,7 @@ module _ (laws : Laws) (given : LoadInput) (keys : List (List ℕ)) (files : Lis
             includes = subst (λ ns. map (slice_get (keys_of program)) ns ≡ map Some (named_keys entry.unit.includes)) (sym x.3.includes) (subst (λ ks. map (slice_get ks) (numbers_of x.0.targets.items) ≡ map Some (named_keys entry.unit.includes)) (sym all_keys) n.0);
           }
 
-      -- and is a program
+      -- the entries are a program
       pub a_program : IsProgram program
       a_program =
           let long : length program ≡ length keys = sym (length-map program (λ (y : Entry). y.key)) ∙ ap length all_keys in
@@ -291,7 +291,7 @@ module _ (laws : Laws) (given : LoadInput) (keys : List (List ℕ)) (files : Lis
                 ),
               )))))))
 
-      -- whose protocols bear the names of their files
+      -- the protocols have the names of their files
       pub bear : BearTheirNames program
       bear = recursion_from_All (λ (y : Entry). IfSome y.unit.protocol (λ p. y.key ≡ short_name p.full ++ ending file.Protocol)) program (λ n d within. bears n (get_or program n d) (slice_get-get_or program n d within))
 
@@ -303,7 +303,7 @@ exact laws given count keys files g found is f = (
   λ b. (is f).1 (subst (λ m. (n : ℕ) × IsFoundOf m keys files n f) g.counted (complete laws.answer given keys files g.first g.firsts g.words g.read f b)),
 )
 
--- where none is found no rule is broken
+-- if nothing is found, no rule is broken
 pub clean_of : Laws → (given : LoadInput) (count : ℕ) (keys : List (List ℕ)) (files : List ReachedFile) → IsGathered given count keys files → (found : List Finding) → ((f : Finding) → Contains found f ↔ ((n : ℕ) × IsFoundOf count keys files n f))
     → found ≡ [] → (f : Finding) → ¬ IsBroken given keys f
 clean_of laws given count keys files g found is none f b =
@@ -311,7 +311,7 @@ clean_of laws given count keys files g found is none f b =
     let k = c.1 in
     omega arith
 
--- where some are found the files are broken by these
+-- if there are findings, the files are broken with these
 pub broken_are : Laws → (given : LoadInput) (count : ℕ) (keys : List (List ℕ)) (files : List ReachedFile) → IsGathered given count keys files → (found : List Finding) → ((f : Finding) → Contains found f ↔ ((n : ℕ) × IsFoundOf count keys files n f))
     → 0 < length found → AreBrokenFiles given (record { findings = found; names = map (λ (f : ReachedFile). f.source.text) files })
 broken_are laws given count keys files g found is some = record {

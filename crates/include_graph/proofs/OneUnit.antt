@@ -1,7 +1,7 @@
--- What a file names is one list.
+-- The keys that a file names are one list.
 use Rattle.std.proofs.Common.{◌≡◌, ◌∙◌, inl, inr, ℕ, List, [], ◌∷◌, ◌++◌, Option, refl, sym, ap, subst, arith}
 use Rattle.std.proofs.lemmas.Option.{same_Some}
-use Rattle.ipdl_lex.specs.declared.token.Lexed.{Lexed}
+use Rattle.ipdl_lex.specs.declared.token.LexedText.{LexedText}
 use Rattle.ipdl_lex.specs.Tokens.{IsTokens}
 use Rattle.ipdl_syntax.specs.declared.tree.FileKind.{FileKind}
 use Rattle.ipdl_syntax.specs.declared.tree.FileKind.TheVariants as file
@@ -15,24 +15,24 @@ use Rattle.include_graph.specs.Reach.{IsUnitOf, Names}
 
 -- a text has at most one list of tokens, and tokens have at most one tree
 pub record AtMostOne : Type 0 where
-  pub tokens : (number : ℕ) (text : List ℕ) (one other : Lexed) → IsTokens number text one → IsTokens number text other → one ≡ other
+  pub tokens : (number : ℕ) (text : List ℕ) (one other : LexedText) → IsTokens number text one → IsTokens number text other → one ≡ other
   pub tree : HasOneTree
 
--- the last byte, or this where there is none
+-- the last byte, or this if there is no byte
 abbrev last_or : ℕ → List ℕ → ℕ
 last_or d [] = d
 last_or d (b ∷ bs) = last_or b bs
 
--- what stands in front does not matter
-last_behind : (d : ℕ) (front : List ℕ) (b : ℕ) (bs : List ℕ) → last_or d (front ++ b ∷ bs) ≡ last_or b bs
-last_behind d [] b bs = refl
-last_behind d (x ∷ front) b bs = last_behind x front b bs
+-- what comes before does not matter
+last_after : (d : ℕ) (front : List ℕ) (b : ℕ) (bs : List ℕ) → last_or d (front ++ b ∷ bs) ≡ last_or b bs
+last_after d [] b bs = refl
+last_after d (x ∷ front) b bs = last_after x front b bs
 
 -- a key does not end in both ways
 not_both : (key : List ℕ) → HasKind key file.Protocol → HasKind key file.Header → ⊥
 not_both key (front, is) (other, are) =
-    let protocol : last_or 0 key ≡ 108 = ap (last_or 0) is ∙ last_behind 0 front 46 (105 ∷ 112 ∷ 100 ∷ 108 ∷ []) in
-    let header : last_or 0 key ≡ 104 = ap (last_or 0) are ∙ last_behind 0 other 46 (105 ∷ 112 ∷ 100 ∷ 108 ∷ 104 ∷ []) in
+    let protocol : last_or 0 key ≡ 108 = ap (last_or 0) is ∙ last_after 0 front 46 (105 ∷ 112 ∷ 100 ∷ 108 ∷ []) in
+    let header : last_or 0 key ≡ 104 = ap (last_or 0) are ∙ last_after 0 other 46 (105 ∷ 112 ∷ 100 ∷ 108 ∷ 104 ∷ []) in
     omega (arith, protocol, header)
 
 -- so it has one kind
@@ -50,7 +50,7 @@ includes_one laws number key held one other u v =
     let lexed : u.lexed ≡ v.lexed = laws.tokens number v.bytes u.lexed v.lexed (subst (λ (text : List ℕ). IsTokens number text u.lexed) bytes u.tokens) v.tokens in
     let kind : u.kind ≡ v.kind = kind_one key u.kind v.kind u.is_kind v.is_kind in
     let tree : Tree v.kind v.lexed.tokens one =
-    subst (λ (k : FileKind). Tree k v.lexed.tokens one) kind (subst (λ (l : Lexed). Tree u.kind l.tokens one) lexed u.tree) in
+    subst (λ (k : FileKind). Tree k v.lexed.tokens one) kind (subst (λ (l : LexedText). Tree u.kind l.tokens one) lexed u.tree) in
     ap (λ (unit : FileUnit). unit.includes) (laws.tree v.kind v.lexed.tokens one other tree v.tree)
 
 -- a file names one list of keys

@@ -11,7 +11,7 @@ use Rattle.include_graph.specs.Reach.{first_place}
 use Rattle.ipdl_base.proofs.Ends.{by_test, same_is, is_itself}
 use Rattle.include_graph.proofs.Ends.{other_is}
 
--- what is in a list and is not its head is in its tail
+-- an element of a list that is not its head is in its tail
 pub in_tail : (x : List ℕ) (xs : List (List ℕ)) (k : List ℕ) → Contains (x ∷ xs) k → ¬ (x ≡ k) → Contains xs k
 in_tail x xs k (zero, below, is) differ = absurd (differ is)
 in_tail x xs k (suc i, below, is) differ = (i, omega arith, is)
@@ -44,7 +44,7 @@ not_among xs k h c = true≢false (sym (is_among xs k c) ∙ h)
 pub found_or_not : (xs : List (List ℕ)) (k : List ℕ) → Contains xs k ⊎ (¬ Contains xs k)
 found_or_not xs k = by_test (list_any (is_same k) xs) (λ e. inl (among xs k e)) (λ e. inr (not_among xs k e))
 
--- a key that is named has its first place there, whatever is named behind
+-- the first place of a named key stays, whatever is named later
 pub place_append : (named more : List (List ℕ)) (k : List ℕ) → Contains named k → first_place (named ++ more) k ≡ first_place named k
 place_append [] more k c = absurd (in_none k c)
 place_append (x ∷ xs) more k c = by_test (is_same x k)
@@ -57,14 +57,14 @@ place_within (x ∷ xs) k c = by_test (is_same x k)
     (λ e. rw e (omega arith))
     (λ e. let h = place_within xs k (in_tail x xs k c (other_is x k e)) in rw e (omega arith))
 
--- a key that was not named before has its first place behind what was
+-- a key that was not named before has its first place after the named ones
 pub place_new : (named more : List (List ℕ)) (k : List ℕ) → ¬ Contains named k → first_place (named ++ k ∷ more) k ≡ length named
 place_new [] more k fresh = rw (is_itself k) refl
 place_new (x ∷ xs) more k fresh = by_test (is_same x k)
     (λ e. absurd (fresh (subst (Contains (x ∷ xs)) (same_is x k e) (in_head x xs))))
     (λ e. let h = place_new xs more k (λ c. fresh (in_more x xs k c)) in rw e (omega arith))
 
--- two keys that are named have one first place only if they are one
+-- two named keys have the same first place only if they are the same
 pub place_one : (named : List (List ℕ)) (k l : List ℕ) → Contains named k → Contains named l → first_place named k ≡ first_place named l → k ≡ l
 place_one [] k l c d same = absurd (in_none k c)
 place_one (x ∷ xs) k l c d same = by_test (is_same x k)
@@ -77,7 +77,7 @@ place_one (x ∷ xs) k l c d same = by_test (is_same x k)
     let g : 1 + first_place xs k ≡ 1 + first_place xs l = rw f at (rw e at same) in
     place_one xs k l (in_tail x xs k c (other_is x k e)) (in_tail x xs l d (other_is x l f)) (omega arith)))
 
--- the key stands at its position
+-- the key is at its position
 pub at_position : (keys : List (List ℕ)) (k : List ℕ) (n : ℕ) → position (is_same k) keys ≡ Some n → slice_get keys n ≡ Some k
 at_position keys k n e =
     let p = position-Some (is_same k) keys n k e in
@@ -88,7 +88,7 @@ pub goes_in : (keys : List (List ℕ)) (k : List ℕ) (n : ℕ) → list_any (is
 goes_in keys k n fresh size =
     rw fresh (slice_get-get_or (keys ++ k ∷ []) n k (omega (arith, length-append keys (k ∷ []))) ∙ ap Some (get_or_at keys k [] k n (sym size)))
 
--- what is in a list of one is that one
+-- an element of a list of one is that one
 pub the_one : (x k : List ℕ) → Contains (x ∷ []) k → x ≡ k
 the_one x k (zero, below, is) = is
 the_one x k (suc i, below, is) = absurd (omega arith)

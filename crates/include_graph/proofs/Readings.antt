@@ -1,4 +1,4 @@
--- What comes of a key, by what its names have.
+-- The file of a key, by the bytes of its names.
 use Rattle.std.proofs.Common.{◌≡◌, ◌≢◌, ℕ, cond, List, [], ◌∷◌, ◌++◌, refl, sym, ◌∙◌, ap, subst, map, is_some, string_bytes}
 use Rattle.std.specs.Prelude.{IfSome, None, Ok, Option, Some, find}
 use Rattle.std.specs.List.{AllPairs, Contains}
@@ -30,7 +30,7 @@ path_append files before after key =
     ap (find (λ name. is_some (files name))) (map-append (λ d. in_directory d key) before after)
     ∙ find-append (λ name. is_some (files name)) (map (λ d. in_directory d key) before) (map (λ d. in_directory d key) after)
 
--- where there is none in the first part, the second decides
+-- if there is no file in the first part, the second decides
 after_none : (files : FileMap) (before after : List (List ℕ)) (key : List ℕ) → name_on_path files before key ≡ None → name_on_path files (before ++ after) key ≡ name_on_path files after key
 after_none files before after key none = path_append files before after key ∙ ap (λ o. option_or o (name_on_path files after key)) none
 
@@ -55,7 +55,7 @@ found_first files before after d key file called there none held =
     let is : name_on_path files (before ++ d ∷ after) key ≡ Some (in_directory d key) = after_none files before (d ∷ after) key none ∙ ap (λ o. cond (is_some o) (Some (in_directory d key)) (name_on_path files after key)) bytes.1 in
     (is ∙ ap Some (sym called), subst (λ name. IsHeldWithin MOST_BYTES (files name) file.found) (sym called) held)
 
--- what comes of a key with a file on the path, and of one without
+-- the file of a key that is on the path, and of one that is not
 pub source_found : (number : ℕ) (key : List ℕ) (files : FileMap) (path : List (List ℕ)) (file : FoundFile) (source : SourceFile) → source.text ≡ string_bytes file.name
     → ((held : Option (List ℕ)) → IsHeldWithin MOST_BYTES held file.found → IsContent number key held source.content)
     → IsFirstOnPath files path key (Some file) → IsSource number key files (name_on_path files path key) source
@@ -67,7 +67,7 @@ pub source_absent : (number : ℕ) (key : List ℕ) (files : FileMap) (path : Li
 source_absent number key files path source called is none =
     subst (λ o. IsSource number key files o source) (sym none) (record { called = called; content = subst (IsContent number key None) (sym is) refl })
 
--- One more name on the path is read, in a directory that is none of those before it.
+-- One more name on the path is read, in a directory that differs from those before it.
 module _ (told again : Option FileMap) (old mid new : List ReadEntry) (before after : List (List ℕ)) (d key name : List ℕ) (found : FileBytes)
     (once : AllPairs (λ one other. one ≢ other) (before ++ d ∷ after)) (named : name ≡ in_directory d key) (logged : new ≡ mid ++ entries_of name MOST_BYTES (Ok found))
     (names : HaveNames (Contains (map (λ x. in_directory x key) before)) old mid) where

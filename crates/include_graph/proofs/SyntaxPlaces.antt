@@ -8,14 +8,14 @@ use Rattle.ipdl_syntax.specs.declared.tree.FileKind.{FileKind}
 use Rattle.ipdl_syntax.specs.Program.{Tree}
 use Rattle.ipdl_parse.specs.Place.{GoesOn, IsSyntaxPlace, IsPlaceAt}
 
--- the first of the first are the first
+-- the first elements of a prefix are the first of the list
 first_of_first : (tokens : List Token) (i j : ℕ) → i ≤ j → take i (take j tokens) ≡ take i tokens
 first_of_first tokens zero j le = refl
 first_of_first tokens (suc i) zero le = absurd (let no : ⊥ = omega arith in no)
 first_of_first [] (suc i) (suc j) le = refl
 first_of_first (t ∷ tokens) (suc i) (suc j) le = ap (λ ts. t ∷ ts) (first_of_first tokens i j (omega arith))
 
--- a prefix of what goes on to a file goes on to it
+-- a prefix of tokens that continue to a file continues to it
 shorter : (kind : FileKind) (tokens : List Token) (i j : ℕ) → i ≤ j → GoesOn kind (take j tokens) → GoesOn kind (take i tokens)
 shorter kind tokens i j le (more, (unit, tree)) =
     let between : List Token = drop i (take j tokens) in
@@ -36,7 +36,7 @@ one_index kind tokens i j p q =
     let other : j < i → ⊥ = not_below kind tokens j i q p in
     omega (arith, one, other)
 
--- a token has one place, and so has the end
+-- a token has one place, and the end has one place
 one_place : (found : Option Token) (end a b : Place) → MatchOption found (a ≡ end) (λ t. a ≡ t.place) → MatchOption found (b ≡ end) (λ t. b ≡ t.place) → a ≡ b
 one_place None end a b p q = p ∙ sym q
 one_place (Some t) end a b p q = p ∙ sym q

@@ -22,7 +22,7 @@ get_append [] ys i x h = absurd (let none : ⊥ = cc in none)
 get_append (y ∷ xs) ys zero x h = h
 get_append (y ∷ xs) ys (suc i) x h = get_append xs ys i x h
 
--- one more key leaves what an include leads to
+-- one more key does not change what an include leads to
 target_one : (keys : List (List ℕ)) (k : List ℕ) (i : Include) (t : Target) → IsTarget keys i t → IsTarget (add_key keys k) i t
 target_one keys k i Nothing h = h
 target_one keys k i LeftOut h = subst (λ ks. IsTarget ks i LeftOut) (sym (add_full keys k h.2)) h

@@ -41,7 +41,7 @@ get_front [] ys n x less e = absurd (let none : ⊥ = omega arith in none)
 get_front (y ∷ xs) ys zero x less e = e
 get_front (y ∷ xs) ys (suc n) x less e = get_front xs ys n x (omega arith) e
 
--- what a look-up by index gives, without its references
+-- the result of a lookup by index, without its references
 pub copied_is : (xs : List (Bor (List ℕ))) (i : ℕ) (r : Option (Bor (Bor (List ℕ)))) → MatchOption r (length xs ≤ i) (λ x. (i < length xs) × ((d : Bor (List ℕ)) → x.now ≡ get_or xs i d)) → option_map (λ y. y.now) (option_map (λ x. x.now) r) ≡ slice_get (map (λ f. f.now) xs) i
 copied_is xs i None h = sym (slice_get_past (map (λ (f : Bor (List ℕ)). f.now) xs) i (omega (arith, length-map xs (λ (f : Bor (List ℕ)). f.now))))
 copied_is xs i (Some x) h = sym (slice_get-map (λ (f : Bor (List ℕ)). f.now) xs i ∙ ap (option_map (λ (f : Bor (List ℕ)). f.now)) (slice_get_read xs (length xs) i x.now refl h.0 (h.1 x.now)))
@@ -70,7 +70,7 @@ walk_start words list firsts files h = record {
 pub none_reached : (given : LoadInput) (list : List (List ℕ)) → AreReached given list []
 none_reached given list number key file e none = absurd (let no : ⊥ = cc in no)
 
--- the word of a key, where it has one, stands beside it
+-- the word of a key, if it has one, is at the key's index
 pub first_word : (words first list further firsts : List (List ℕ)) (number : ℕ) (key : List ℕ) → HasWords words first firsts → list ≡ word_keys words ++ further → AllPairs (λ one other. one ≢ other) list
     → slice_get list number ≡ Some key → slice_get firsts number ≡ word_of words key
 first_word words first list further firsts number key h begin once e = elim (cases_lt number (length first)) [
@@ -96,7 +96,7 @@ first_word words first list further firsts number key h begin once e = elim (cas
         let other : get_or list number key ≡ key = get_or_from_slice_get list number key key e in
         once d.0 number key before (slice_get_within list number key e) (one ∙ sym other)
 
--- a number beside which no word stands is past the keys of the words
+-- an index without a word is past the keys of the words
 pub past_first : (words first firsts : List (List ℕ)) (n : ℕ) → HasWords words first firsts → slice_get firsts n ≡ None → length (word_keys words) ≤ n
 past_first words first firsts n h none =
     let long = AllZip-long (λ k v. word_of words k ≡ Some v) first firsts h.first in
@@ -109,7 +109,7 @@ past_first words first firsts n h none =
     clash : {x : List ℕ} → slice_get firsts n ≡ Some x → ⊥
     clash e = cc
 
--- where all keys have their files, these are read
+-- if all keys have their files, these are read
 pub walk_end : (given : LoadInput) (list : List (List ℕ)) (files : List ReachedFile) → Walking given.words list files → length list ≤ length files → AreReached given list files → AreRead given list files
 walk_end given list files w all each = let r = w.room in record {
   size = omega arith;
@@ -125,7 +125,7 @@ walk_end given list files w all each = let r = w.room in record {
   };
 }
 
--- files that are looked for in the different directories of a path are looked for on it
+-- files that are searched for in the distinct directories of a path are searched for on the path
 pub on_whole_path : (files : FileMap) (words path list : List (List ℕ)) (reached : List ReachedFile)
     → AreRead (record { files = files; words = words; path = different path }) list reached → AreRead (record { files = files; words = words; path = path }) list reached
 on_whole_path files words path list reached read = record {
@@ -139,7 +139,7 @@ on_whole_path files words path list reached read = record {
   reached = read.reached;
 }
 
--- a key that stands before another in the list is another
+-- two keys at different indices of the list differ
 pub apart : (list : List (List ℕ)) (i j : ℕ) (one other : List ℕ) → AllPairs (λ x y. x ≢ y) list → i < j → slice_get list i ≡ Some one → slice_get list j ≡ Some other → one ≢ other
 apart list i j one other once before a b e =
     once i j one before (slice_get_within list j other b) (get_or_from_slice_get list i one one a ∙ (e ∙ sym (get_or_from_slice_get list j other one b)))
@@ -148,7 +148,7 @@ apart list i j one other once before a b e =
 abbrev pub IsBefore : List (List ℕ) → ℕ → List ℕ → Type 0
 IsBefore list n key = (number : ℕ) × (number < n) × (slice_get list number ≡ Some key)
 
--- what came of a key, told of the same key in other words
+-- the file of a key is that of an equal key
 pub same_key : {n n' : ℕ} {k k' : List ℕ} {o o' : Option (List ℕ)} (path : List (List ℕ)) (source : SourceFile) → n ≡ n' → k ≡ k' → o ≡ o'
     → (m : FileMap) → IsSource n k m (option_or o (name_on_path m path k)) source → IsSource n' k' m (option_or o' (name_on_path m path k')) source
 same_key {n} {n'} {k} {k'} {o} {o'} path source b c d m h =

@@ -1,4 +1,4 @@
--- How far the walk over the files has come, and what it is at its end.
+-- The progress of the walk over the files, and its result.
 use Rattle.std.proofs.Common.{◌≡◌, ◌⊎◌, inl, inr, ℕ, zero, suc, ◌<◌, ◌≤◌, nat_lt, List, [], ◌∷◌, ◌++◌, length, take, refl, sym, ◌∙◌, ap, subst, arith, length-append}
 use Rattle.std.specs.Prelude.{Option, Some, slice_get}
 use Rattle.std.specs.List.{Contains, list_any}
@@ -44,7 +44,7 @@ got_last [] y (suc n) x e = absurd (let none : ⊥ = cc in none)
 got_last (z ∷ xs) y zero x e = inl e
 got_last (z ∷ xs) y (suc n) x e = elim (got_last xs y n x e) [ inl h ↦ inl h | inr h ↦ (let k = h.0 in inr (omega arith, h.1)) ]
 
--- a key that was added is old, or is named
+-- a key that is read after an addition was there, or is the new one
 added_one : (list : List (List ℕ)) (k : List ℕ) (n : ℕ) (key : List ℕ) → slice_get (add_key list k) n ≡ Some key → (slice_get list n ≡ Some key) ⊎ ((length list ≤ n) × (k ≡ key))
 added_one list k n key e = by_test (list_any (is_same k) list)
     (λ a. inl (subst (λ ks. slice_get ks n ≡ Some key) (add_old list k a) e))
@@ -81,7 +81,7 @@ pub key_more : (list row : List (List ℕ)) (n : ℕ) (key : List ℕ) → slice
 key_more list [] n key e = e
 key_more list (k ∷ row) n key e = key_more (add_key list k) row n key (key_one list k n key e)
 
--- what the targets of a file are when more keys are added
+-- the targets of a file when more keys are added
 still_targets : (list row : List (List ℕ)) (content : Content) (targets : List Target) → AreTargets list content targets → AreTargets (add_keys list row) content targets
 still_targets list row Absent targets h = h
 still_targets list row Large targets h = h
@@ -107,7 +107,7 @@ named_push files file =
     ap all_named (rows_push files file) ∙ flat_map-append (λ row. row) (rows_of files) (row_of file.source.content ∷ [])
     ∙ ap (λ ks. all_named (rows_of files) ++ ks) (append-nil (row_of file.source.content))
 
--- what is named by the first rows is named by them when more follow
+-- a key that the first rows name is named by them when more follow
 pub take_named : (rows more : List (List (List ℕ))) (n : ℕ) (key : List ℕ) → Contains (all_named (take n rows)) key → Contains (all_named (take n (rows ++ more))) key
 take_named [] more zero key c = c
 take_named [] more (suc n) key c = absurd (in_none key c)
@@ -125,7 +125,7 @@ module _ (list new : List (List ℕ)) (files all : List ReachedFile) (key : List
   within : length files < length list
   within = slice_get_within list (length files) key at
 
-  -- the keys once one more file is read
+  -- the keys after one more file is read
   pub walk_more : WordsHold → NamesHold → (words : List (List ℕ)) (number : ℕ) (k : List ℕ) (held : Option (List ℕ)) → IsContent number k held file.source.content → Walking words list files → Walking words new all
   walk_more words_law names_law words number other held content w = subst (λ (fs : List ReachedFile). Walking words new fs) (sym is) (subst (λ ks. Walking words ks (files ++ file ∷ [])) (sym grows) step)
     where
@@ -150,7 +150,7 @@ module _ (list new : List (List ℕ)) (files all : List ReachedFile) (key : List
         plain = λ number k e past. elim (added list row number k e) [ inl old ↦ w.plain number k old past | inr late ↦ (whole_row k late.1).1 ];
       }
 
-  -- and the files with it
+  -- the files after one more file is read
   pub reached_more : (given : LoadInput) → AreTargets new file.source.content file.targets.items
       → IsSource (length files) key given.files (option_or (word_of given.words key) (name_on_path given.files given.path key)) file.source
       → AreReached given list files → AreReached given new all

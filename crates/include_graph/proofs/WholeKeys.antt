@@ -1,4 +1,4 @@
--- Keys are whole: none has a slash, and each has its ending.
+-- Keys are whole: each has no slash, and its ending.
 use Rattle.std.proofs.Common.{◌≡◌, ◌⊎◌, inl, inr, ℕ, ◌<◌, ◌||◌, ◌&&◌, Bool, true, false, nat_eq, List, [], ◌∷◌, ◌++◌, refl, sym, ◌∙◌, ap, subst, arith, true≢false}
 use Rattle.std.specs.Prelude.{nat_le, nat_lt}
 use Rattle.std.proofs.lemmas.Bool.{leb-true, ltb-true, eqb-true}
@@ -24,14 +24,14 @@ use Rattle.include_graph.proofs.Places.{in_none, the_one}
 abbrev pub slash : ℕ → Bool
 slash = λ c. nat_eq c 47
 
--- what no slash stands in is its own key
+-- a text without a slash is its own key
 pub bare : (xs : List ℕ) → list_any slash xs ≡ false → key_of xs ≡ xs
 bare [] h = refl
 bare (x ∷ xs) h = by_test (slash x)
     (λ e. absurd (true≢false (rw e at h)))
     (λ e. let rest : list_any slash xs ≡ false = rw e at h in rw rest (rw e refl))
 
--- no slash stands in a key
+-- a key has no slash
 pub no_slash : (name : List ℕ) → list_any slash (key_of name) ≡ false
 no_slash [] = refl
 no_slash (b ∷ bs) = by_test (list_any slash bs)
@@ -101,7 +101,7 @@ word_byte b h = (
       | inr line ↦ (let k = eqb-true b 95 line in omega arith)
     ]
 
--- bytes of which each is of a word
+-- bytes that are all of words
 word_bytes : (bs : List ℕ) → list_all is_word_byte bs ≡ true → IsAscii bs × (list_any slash bs ≡ false)
 word_bytes [] h = (IsAscii-nil, refl)
 word_bytes (b ∷ bs) h = by_test (is_word_byte b)
@@ -130,13 +130,13 @@ named_whole kind name w =
     let plain = word_plain name w in
     (record { own = bare (name ++ ending kind) (any_append name (ending kind) plain.1 ∙ no_slash_ending kind); ended = kind_word (name ++ ending kind) kind (name, refl) }, IsAscii-append name (ending kind) plain.0 (ascii_ending kind))
 
--- so is the key that an include names
+-- the same of the key that an include names
 key_whole : (k : IncludeKind) (name key : List ℕ) → IncludeHasWord k name → Contains (named_key k name) key → IsWhole key × IsAscii key
 key_whole kind.Protocol name key w c = subst (λ x. IsWhole x × IsAscii x) (the_one (name ++ ending file.Protocol) key c) (named_whole file.Protocol name w)
 key_whole kind.Header name key w c = subst (λ x. IsWhole x × IsAscii x) (the_one (name ++ ending file.Header) key c) (named_whole file.Header name w)
 key_whole kind.Quoted name key w c = absurd (in_none key c)
 
--- and each key that includes name
+-- the same of each key that includes name
 pub keys_whole : (includes : List Include) → AllByRecursion (λ i. IncludeHasWord i.kind i.name) includes → (key : List ℕ) → Contains (named_keys includes) key → IsWhole key × IsAscii key
 keys_whole [] h key c = absurd (in_none key c)
 keys_whole (i ∷ is) h key c = elim (Contains-append_cases (named_key i.kind i.name) (named_keys is) key c) [

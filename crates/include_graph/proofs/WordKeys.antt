@@ -22,7 +22,7 @@ pub head_or_tail : (x : List ℕ) (xs : List (List ℕ)) (k : List ℕ) → Cont
 head_or_tail x xs k (zero, below, is) = inl is
 head_or_tail x xs k (suc i, below, is) = inr (i, omega arith, is)
 
--- what a filter keeps
+-- an element that a filter keeps is one of the list
 filter_has : (p : List ℕ → Bool) (xs : List (List ℕ)) (k : List ℕ) → Contains (filter p xs) k → Contains xs k
 filter_has p [] k c = c
 filter_has p (x ∷ xs) k c = by_test (p x)
@@ -44,7 +44,7 @@ kept p (x ∷ xs) k pass c = by_test (p x)
       | inr tail ↦ kept p xs k pass tail
     ]))
 
--- what is in a list is among the different ones of it
+-- an element of a list is among its distinct elements
 pub different_has : (xs : List (List ℕ)) (k : List ℕ) → Contains xs k → Contains (different xs) k
 different_has [] k c = c
 different_has (x ∷ xs) k c = by_test (is_same x k)

@@ -1,4 +1,4 @@
--- Worked cases of keys, of the names under which they are read, and of a reach with wrong neighbours.
+-- Worked cases of keys, of the names under which they are read, and of a reach with wrong variants.
 use Rattle.std.proofs.Common.{◌≡◌, ◌≢◌, ◌<◌, ◌⊎◌, ◌∙◌, inl, inr, ℕ, zero, suc, if◌then◌else◌, List, [], ◌∷◌, length, take, refl, sym, subst, arith}
 use Rattle.std.specs.Prelude.{Some, None, slice_get, codes}
 use Rattle.std.specs.List.{AllPairs, Contains}
@@ -13,8 +13,8 @@ use Rattle.include_graph.specs.Sources.{LoadInput, in_directory, read_name, cont
 
 -- Keys
 
-key_behind_slashes : key_of (codes "one/two/PX.ipdl") ≡ codes "PX.ipdl"
-key_behind_slashes = refl
+key_after_slashes : key_of (codes "one/two/PX.ipdl") ≡ codes "PX.ipdl"
+key_after_slashes = refl
 
 key_without_slash : key_of (codes "PX.ipdl") ≡ codes "PX.ipdl"
 key_without_slash = refl

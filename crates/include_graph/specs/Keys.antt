@@ -6,7 +6,7 @@ use Rattle.ipdl_base.specs.FileNames.{key_of, IsFileWord}
 use Rattle.ipdl_syntax.specs.declared.tree.FileKind.{FileKind}
 use Rattle.ipdl_syntax.specs.Programs.{ending}
 
--- it ends as the names of files of this kind do
+-- the name ends as those of files of this kind
 abbrev pub HasKind : List ℕ → FileKind → Type 0
 HasKind name kind = (front : List ℕ) × (name ≡ front ++ ending kind)
 
@@ -19,7 +19,7 @@ pub record AreFileWords (words : List (List ℕ)) : Type 0 where
 abbrev pub is_same : List ℕ → List ℕ → Bool
 is_same one other = pointwise nat_eq one other
 
--- each of these once, in the order in which they come first
+-- each of these once, in the order of their first occurrences
 abbrev pub different : List (List ℕ) → List (List ℕ)
 different [] = []
 different (x ∷ xs) = x ∷ filter (λ y. not (is_same x y)) (different xs)

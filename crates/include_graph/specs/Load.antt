@@ -1,4 +1,4 @@
--- What a load answers.
+-- The result of a load.
 use Rattle.std.specs.Prelude.{◌≡◌, ◌≢◌, ◌↔◌, ℕ, ◌≤◌, List, [], length, map, slice_get, Some}
 use Rattle.std.specs.List.{Contains}
 use Rattle.ipdl_base.specs.declared.finding.Finding.{Finding}
@@ -20,13 +20,13 @@ pub record IsEntryOf (given : LoadInput) (number : ℕ) (entry : Entry) : Type 0
   pub name : IsReadUnder given entry.key entry.name
   pub unit : IsUnitOf number entry.key (content given entry.key) entry.unit
 
--- The program of the reach, by which no rule is broken.
+-- The program of the reach, whose files break no rule.
 pub record IsProgramOf (given : LoadInput) (program : List Entry) : Type 0 where
   pub reach : IsReach given (keys_of program)
   pub clean : (f : Finding) → ¬ IsBroken given (keys_of program) f
   pub entries : (number : ℕ) (entry : Entry) → slice_get program number ≡ Some entry → IsEntryOf given number entry
 
--- What the files of the reach break, which is something, and how each of them is called.
+-- The findings on the files of the reach, at least one, and the name of each file in a report.
 pub record AreBrokenFiles (given : LoadInput) (files : BrokenFiles) : Type 0 where
   pub keys : List (List ℕ)
   pub reach : IsReach given keys
@@ -34,12 +34,12 @@ pub record AreBrokenFiles (given : LoadInput) (files : BrokenFiles) : Type 0 whe
   pub some : files.findings ≢ []
   pub called : files.names ≡ map (text_of given) keys
 
--- What was loaded: the program where no rule is broken, and else what is.
+-- The result of a load: the program if no rule is broken, or else the broken rules.
 abbrev pub IsAnswer : LoadInput → LoadResult → Type 0
 IsAnswer given (Whole program) = IsProgramOf given program
 IsAnswer given (Broken files) = AreBrokenFiles given files
 
--- a program that is one, of protocols that bear the names of their files; or at most 4,096 files
+-- a program as its definition requires, with protocols that have the names of their files; or at most 4,096 files
 abbrev pub IsGood : LoadResult → Type 0
 IsGood (Whole program) = IsProgram program × BearTheirNames program
 IsGood (Broken files) = length files.names ≤ 4096

@@ -1,8 +1,8 @@
--- Which files are reached.
+-- The files that are reached.
 use Rattle.std.specs.Prelude.{◌≡◌, ◌≢◌, ℕ, ◌≤◌, ◌<◌, ◌⊎◌, List, [], ◌++◌, length, take, slice_get, Option, Some}
 use Rattle.std.specs.List.{All, AllPairs, Contains, flat_map, position_or_len}
 use Rattle.ipdl_base.specs.declared.files.TheConstants.{MOST_BYTES}
-use Rattle.ipdl_lex.specs.declared.token.Lexed.{Lexed}
+use Rattle.ipdl_lex.specs.declared.token.LexedText.{LexedText}
 use Rattle.ipdl_lex.specs.Tokens.{IsTokens}
 use Rattle.ipdl_syntax.specs.declared.tree.FileKind.{FileKind}
 use Rattle.ipdl_syntax.specs.declared.tree.Unit.{Unit as FileUnit}
@@ -11,44 +11,44 @@ use Rattle.ipdl_syntax.specs.Programs.{named_keys}
 use Rattle.include_graph.specs.Keys.{HasKind, is_same, word_keys}
 use Rattle.include_graph.specs.Sources.{LoadInput, content}
 
--- The file of this key has this tree, where it is read as the file of this number and holds these bytes, if any.
+-- The file of this key has this tree, if it is read as the file of this number and contains these bytes, if any.
 pub record IsUnitOf (number : ℕ) (key : List ℕ) (held : Option (List ℕ)) (unit : FileUnit) : Type 0 where
   pub bytes : List ℕ
   pub has : held ≡ Some bytes
   pub small : length bytes ≤ MOST_BYTES
-  pub lexed : Lexed
+  pub lexed : LexedText
   pub tokens : IsTokens number bytes lexed
   pub kind : FileKind
   pub is_kind : HasKind key kind
   pub tree : Tree kind lexed.tokens unit
 
--- The keys that such a file names, in text order: those of its tree's includes. A file without a tree names none.
+-- The keys that such a file names, in text order: those of its tree's includes. A file without a tree names no key.
 abbrev pub Names : ℕ → List ℕ → Option (List ℕ) → List (List ℕ) → Type 0
 Names number key held named =
     ((unit : FileUnit) × IsUnitOf number key held unit × (named ≡ named_keys unit.includes))
     ⊎ (((unit : FileUnit) → ¬ IsUnitOf number key held unit) × (named ≡ []))
 
--- each row is what the file of the key at its place names
+-- each row has the keys that the file of the key at its index names
 pub record AreNamed (given : LoadInput) (keys : List (List ℕ)) (rows : List (List (List ℕ))) : Type 0 where
   pub size : length rows ≡ length keys
   pub each : (number : ℕ) (key : List ℕ) (row : List (List ℕ)) → slice_get keys number ≡ Some key → slice_get rows number ≡ Some row → Names number key (content given key) row
 
--- what all files name, file by file and include by include
+-- the keys that all files name, file by file and include by include
 abbrev pub all_named : List (List (List ℕ)) → List (List ℕ)
 all_named rows = flat_map (λ row. row) rows
 
--- the place of a key among names: that of the first which is the key
+-- the index of a key among names: that of its first occurrence
 abbrev pub first_place : List (List ℕ) → List ℕ → ℕ
 first_place named key = position_or_len (λ name. is_same name key) named
 
--- A key is left out: the list is full, and all of its further keys are named before this one.
+-- A key is left out: the list is full, and all keys that the list has beyond those of words are named before this one.
 pub record IsLeftOut (keys further named : List (List ℕ)) (key : List ℕ) : Type 0 where
   pub full : length keys ≡ 4096
-  pub behind : All (λ other. first_place named other < first_place named key) further
+  pub following : All (λ other. first_place named other < first_place named key) further
 
--- The keys are what the words reach, where these rows are what their files name: first the keys of the words, each
--- once; then further keys, each named by a file before it, in the order in which the files name them first; and every
--- key that is named, unless the list is full of keys that are named before it.
+-- The keys are what the words reach, if these rows are what their files name: first the keys of the words, each once;
+-- then further keys, each named by a file before it, in the order in which the files name them first. Every named key
+-- is there, unless the list is full of keys that are named before it.
 pub record IsReachBy (words keys : List (List ℕ)) (rows : List (List (List ℕ))) : Type 0 where
   pub few : length keys ≤ 4096
   pub once : AllPairs (λ one other. one ≢ other) keys

@@ -1,10 +1,10 @@
--- What is kept of a file that was looked for.
+-- What is stored of a file that was searched for.
 use Rattle.std.specs.Prelude.{◌≡◌, ℕ, List, [], ◌∷◌, length, map, slice_get, Option, Some, None, string_bytes, unwrap_or}
 use Rattle.std.specs.List.{AllZip, Contains, filter_map}
 use Rattle.std.specs.Option.{option_and_then, option_or}
 use Rattle.ipdl_base.specs.declared.files.TheConstants.{MOST_BYTES}
 use Rattle.ipdl_base.specs.Outside.{FileMap, HasMore, IsHeldWithin}
-use Rattle.ipdl_lex.specs.declared.token.Lexed.{Lexed}
+use Rattle.ipdl_lex.specs.declared.token.LexedText.{LexedText}
 use Rattle.ipdl_syntax.specs.declared.program.Entry.{Entry}
 use Rattle.ipdl_syntax.specs.declared.tree.FileKind.{FileKind}
 use Rattle.ipdl_syntax.specs.declared.tree.Include.{Include}
@@ -24,15 +24,15 @@ use Rattle.include_graph.specs.Sources.{LoadInput, word_of, name_on_path, conten
 use Rattle.include_graph.specs.Reach.{IsUnitOf, IsReachBy}
 use Rattle.include_graph.specs.Rules.{HasBadToken, HasSyntaxFault}
 
--- what the tokens of a file of this kind are read as
-abbrev pub IsContentOfTokens : FileKind → Lexed → Content → Type 0
+-- the content that the tokens of a file of this kind are read as
+abbrev pub IsContentOfTokens : FileKind → LexedText → Content → Type 0
 IsContentOfTokens kind lexed Absent = ⊥
 IsContentOfTokens kind lexed Large = ⊥
 IsContentOfTokens kind lexed (BadToken place) = ⊥
 IsContentOfTokens kind lexed (SyntaxFault place) = (¬ HasTree kind lexed.tokens) × ((index : ℕ) × IsSyntaxPlace kind lexed.tokens index × IsPlaceAt lexed.tokens lexed.end index place)
 IsContentOfTokens kind lexed (Read unit) = Tree kind lexed.tokens unit
 
--- what the file of this number and key, which holds these bytes, if any, is read as
+-- the content that the file of this number and key is read as, if it contains these bytes, if any
 abbrev pub IsContent : ℕ → List ℕ → Option (List ℕ) → Content → Type 0
 IsContent number key held Absent = held ≡ None
 IsContent number key held Large = HasMore MOST_BYTES held
@@ -40,12 +40,12 @@ IsContent number key held (BadToken place) = HasBadToken number held place
 IsContent number key held (SyntaxFault place) = HasSyntaxFault number key held place
 IsContent number key held (Read unit) = IsUnitOf number key held unit
 
--- what came of a key that is read under this name, if any
+-- the file of a key that is read under this name, if any
 pub record IsSource (number : ℕ) (key : List ℕ) (files : FileMap) (name : Option (List ℕ)) (source : SourceFile) : Type 0 where
   pub called : source.text ≡ unwrap_or name key
   pub content : IsContent number key (option_and_then files name) source.content
 
--- the first file of the key on the path, if there is one: its name, and what was read of it
+-- the first file of the key on the path, if there is one: its name, and the bytes that were read
 abbrev pub IsFirstOnPath : FileMap → List (List ℕ) → List ℕ → Option FoundFile → Type 0
 IsFirstOnPath files path key None = name_on_path files path key ≡ None
 IsFirstOnPath files path key (Some file) = (name_on_path files path key ≡ Some (string_bytes file.name)) × IsHeldWithin MOST_BYTES (files (string_bytes file.name)) file.found
@@ -76,7 +76,7 @@ row_of (Read unit) = named_keys unit.includes
 abbrev pub rows_of : List ReachedFile → List (List (List ℕ))
 rows_of files = map (λ f. row_of f.source.content) files
 
--- what came of the key of this number among these keys
+-- the file of the key of this number among these keys
 pub record IsReached (given : LoadInput) (keys : List (List ℕ)) (number : ℕ) (key : List ℕ) (file : ReachedFile) : Type 0 where
   pub source : IsSource number key given.files (option_or (word_of given.words key) (name_on_path given.files given.path key)) file.source
   pub targets : AreTargets keys file.source.content file.targets.items
@@ -87,7 +87,7 @@ pub record AreRead (given : LoadInput) (keys : List (List ℕ)) (files : List Re
   pub each : (number : ℕ) (key : List ℕ) (file : ReachedFile) → slice_get keys number ≡ Some key → slice_get files number ≡ Some file → IsReached given keys number key file
   pub reached : IsReachBy given.words keys (rows_of files)
 
--- the files of these keys are read, and so many keys are those of words
+-- the files of these keys are read, and the first `count` keys are those of words
 pub record IsGathered (given : LoadInput) (count : ℕ) (keys : List (List ℕ)) (files : List ReachedFile) : Type 0 where
   pub first : List (List ℕ)
   pub firsts : List (List ℕ)
@@ -109,14 +109,14 @@ numbers_of targets = filter_map number_of targets
 abbrev pub IsOfTree : Content → Type 0
 IsOfTree content = (unit : FileUnit) × (content ≡ Read unit)
 
--- the entry is made of the key and what came of it
+-- the entry is made of the key and its file
 pub record IsEntryFrom (key : List ℕ) (file : ReachedFile) (entry : Entry) : Type 0 where
   pub has_key : entry.key ≡ key
   pub name : entry.name ≡ file.source.text
   pub unit : file.source.content ≡ Read entry.unit
   pub includes : entry.includes ≡ numbers_of file.targets.items
 
--- each entry is made of the key and the file at its place
+-- each entry is made of the key and the file at its index
 abbrev pub AreEntriesFrom : List (List ℕ) → List ReachedFile → List Entry → Type 0
 AreEntriesFrom [] [] [] = Unit {0}
 AreEntriesFrom (key ∷ keys) (file ∷ files) (entry ∷ program) = IsEntryFrom key file entry × AreEntriesFrom keys files program

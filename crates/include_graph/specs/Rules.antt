@@ -1,4 +1,4 @@
--- The rules that files can break by how they are read and named, each with the places at which it is broken.
+-- The rules on how files are read and named, each with the places at which it is broken.
 use Rattle.std.specs.Prelude.{◌≡◌, ◌≢◌, ℕ, ◌≤◌, ◌⊎◌, List, ◌++◌, length, slice_get, Option, Some, None, IsSome, IsSomeAnd}
 use Rattle.std.specs.List.{Any, Contains}
 use Rattle.ipdl_base.specs.declared.finding.Finding.{Finding}
@@ -7,7 +7,7 @@ use Rattle.ipdl_base.specs.declared.files.TheConstants.{MOST_BYTES}
 use Rattle.ipdl_base.specs.Outside.{HasMore}
 use Rattle.ipdl_base.specs.declared.finding.TheConstants.Rule as rule
 use Rattle.ipdl_base.specs.Words.{short_name}
-use Rattle.ipdl_lex.specs.declared.token.Lexed.{Lexed}
+use Rattle.ipdl_lex.specs.declared.token.LexedText.{LexedText}
 use Rattle.ipdl_lex.specs.declared.token.LexFault.{LexFault}
 use Rattle.ipdl_lex.specs.declared.token.LexFault.TheVariants.{BadByte, OpenComment, OpenString, TooLong, NoMemory}
 use Rattle.ipdl_lex.specs.Tokens.{IsTokens, IsFault}
@@ -20,7 +20,7 @@ use Rattle.include_graph.specs.Keys.{HasKind}
 use Rattle.include_graph.specs.Sources.{LoadInput, word_of, content, IsAbsent}
 use Rattle.include_graph.specs.Reach.{IsUnitOf}
 
--- a file as a whole
+-- the place that means a whole file
 abbrev pub whole_file : ℕ → Place
 whole_file number = record { file = number; line = 0; column = 0 }
 
@@ -32,7 +32,7 @@ place_of (OpenString place) = Some place
 place_of (TooLong place) = Some place
 place_of NoMemory = None
 
--- The file of this number, which holds these bytes, has no tokens from this place on.
+-- The file of this number, which contains these bytes, has no tokens; this is the place of the fault.
 pub record HasBadToken (number : ℕ) (held : Option (List ℕ)) (place : Place) : Type 0 where
   pub bytes : List ℕ
   pub has : held ≡ Some bytes
@@ -41,12 +41,13 @@ pub record HasBadToken (number : ℕ) (held : Option (List ℕ)) (place : Place)
   pub is_fault : IsFault number bytes fault
   pub here : place_of fault ≡ Some place
 
--- The file of this number and key has tokens, and these have no tree: they cannot go on to one from this place on.
+-- The file of this number and key has tokens, and these have no tree; this is the place at which they cannot continue
+-- to a tree.
 pub record HasSyntaxFault (number : ℕ) (key : List ℕ) (held : Option (List ℕ)) (place : Place) : Type 0 where
   pub bytes : List ℕ
   pub has : held ≡ Some bytes
   pub small : length bytes ≤ MOST_BYTES
-  pub lexed : Lexed
+  pub lexed : LexedText
   pub tokens : IsTokens number bytes lexed
   pub kind : FileKind
   pub is_kind : HasKind key kind
@@ -63,11 +64,11 @@ OfFile keys Holds = (number : ℕ) × (key : List ℕ) × (slice_get keys number
 abbrev pub OfUnit : LoadInput → List (List ℕ) → (List ℕ → FileUnit → Type 0) → Type 0
 OfUnit given keys Holds = OfFile keys (λ number key. (unit : FileUnit) × IsUnitOf number key (content given key) unit × Holds key unit)
 
--- an include at this place names a key of which this holds
+-- an include at this place names a key with this property
 abbrev pub IncludesAt : Place → (List ℕ → Type 0) → FileUnit → Type 0
 IncludesAt place Holds unit = Any (λ i. (i.place ≡ place) × Any Holds (named_key i.kind i.name)) unit.includes
 
--- its protocol, whose name stands at this place, has another short name than its key says
+-- the protocol of the file, whose name is at this place, has another short name than the file's key
 abbrev pub IsMisnamedAt : Place → List ℕ → FileUnit → Type 0
 IsMisnamedAt place key unit = IsSomeAnd unit.protocol (λ p. (p.place ≡ place) × (short_name p.full ++ ending file.Protocol ≢ key))
 
@@ -79,7 +80,7 @@ IsBadToken given keys place = OfFile keys (λ number key. HasBadToken number (co
 abbrev pub IsSyntaxFault : LoadInput → List (List ℕ) → Place → Type 0
 IsSyntaxFault given keys place = OfFile keys (λ number key. HasSyntaxFault number key (content given key) place)
 
--- A word names no file, or an include names a key of the list that has none.
+-- A word names no file, or an include names a key of the list that has no file.
 abbrev pub IsNotFound : LoadInput → List (List ℕ) → Place → Type 0
 IsNotFound given keys place =
     OfFile keys (λ number key. IsSome (word_of given.words key) × IsAbsent given key × (place ≡ whole_file number))

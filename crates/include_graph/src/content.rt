@@ -1,3 +1,5 @@
+//! The content of a file: its tree, or why it was not read.
+
 ghost use Rattle.std.specs.Prelude.{◌≤◌, IfOk, Some, length};
 ghost use Rattle.ipdl_base.specs.declared.files.TheConstants.{MOST_BYTES};
 ghost use Rattle.ipdl_base.specs.FileNames.{IsFileWord};
@@ -5,28 +7,32 @@ ghost use Rattle.include_graph.specs.Reading.{IsContentOfTokens, IsContent};
 
 use crate::keys::kind_of;
 use ipdl_base::Place;
-use ipdl_lex::{LexFault, Lexed, lex};
+use ipdl_lex::{LexFault, LexedText, lex};
 use ipdl_parse::{SyntaxFault, parse};
 use ipdl_syntax::{FileKind, Unit};
 use std::alloc::{AllocError, Global};
 
-/// What the file of a key is read as.
+/// The result of reading the file of a key.
 #[derive(Drop)]
 pub enum Content {
     /// There is no such file.
     Absent,
-    /// It has more bytes than are read.
+    /// The file has more bytes than are read.
     Large,
-    /// It has no tokens, from this place on.
+    /// The file has no tokens. This is the place of the fault.
     BadToken(Place),
-    /// Its tokens have no tree, from this place on.
+    /// The tokens of the file have no tree. This is the place of the fault.
     SyntaxFault(Place),
-    /// Its tree.
+    /// The tree of the file.
     Read(Unit),
 }
 
-/// What tokens are read as.
-fn content_of_tokens(alloc: Global, lexed: &Lexed, kind: FileKind) -> Result<Content, AllocError>
+/// Returns the content that tokens are read as.
+fn content_of_tokens(
+    alloc: Global,
+    lexed: &LexedText,
+    kind: FileKind,
+) -> Result<Content, AllocError>
     ensures { IfOk result (IsContentOfTokens kind lexed.now) }
 {
     match parse(alloc, lexed.tokens.as_slice(), lexed.end, kind) {
@@ -36,7 +42,7 @@ fn content_of_tokens(alloc: Global, lexed: &Lexed, kind: FileKind) -> Result<Con
     }
 }
 
-/// What the bytes of the file of this number and key are read as.
+/// Returns the content that the bytes of the file of this number and key are read as.
 pub fn content_of_bytes(
     alloc: Global,
     number: u32,

@@ -1,3 +1,5 @@
+//! The words and keys that name files.
+
 ghost use Rattle.std.specs.Prelude.{◌≡◌, ◌↔◌, ◌++◌, IfOk, IsTrue, map, string_bytes, option_to_list};
 ghost use Rattle.ipdl_base.specs.FileNames.{IsFileWord};
 ghost use Rattle.ipdl_base.specs.Words as words;
@@ -11,7 +13,7 @@ use std::alloc::{AllocError, Global};
 /// The most words of a command.
 const MOST_WORDS: usize = 4096;
 
-/// Whether a protocol of this full name has the name of the file of this key.
+/// Returns whether a protocol of this full name has the name of the file of this key.
 pub fn bears_name(full: &[u8], key: &[u8]) -> bool
     ensures { IsTrue result ↔ (words.short_name full.now ++ ending FileKind.Protocol ≡ key.now) }
 {
@@ -23,7 +25,8 @@ pub fn bears_name(full: &[u8], key: &[u8]) -> bool
     front == short && back == PROTOCOL_ENDING
 }
 
-/// Whether these words can be given to `load`: there are at most 4,096, and each ends in `.ipdl` or `.ipdlh`.
+/// Returns whether `load` takes these words: there are at most 4,096, and each ends in `.ipdl` or
+/// `.ipdlh`.
 pub fn are_file_words(words: &[String]) -> bool
     ensures { IsTrue result ↔ keys.AreFileWords (map string_bytes words.now) }
 {
@@ -38,7 +41,7 @@ pub fn are_file_words(words: &[String]) -> bool
     true
 }
 
-/// The kind of the file of a key.
+/// Returns the kind of the file of a key.
 pub fn kind_of(key: &[u8]) -> FileKind
     requires { IsFileWord key.now }
     ensures { keys.HasKind key.now result }
@@ -50,7 +53,7 @@ pub fn kind_of(key: &[u8]) -> FileKind
     }
 }
 
-/// A name with an ending behind it.
+/// Returns a name followed by an ending.
 fn with_ending(alloc: Global, name: &[u8], ending: &[u8]) -> Result<Name, AllocError>
     ensures { IfOk result (λ key. key ≡ name.now ++ ending.now) }
 {
@@ -59,7 +62,7 @@ fn with_ending(alloc: Global, name: &[u8], ending: &[u8]) -> Result<Name, AllocE
     Ok(key)
 }
 
-/// The key of the file that an include names, where it names one.
+/// Returns the key of the file that an include names, or `None` if it names no file.
 pub fn named_key_of(alloc: Global, include: &Include) -> Result<Option<Name>, AllocError>
     ensures { IfOk result (λ key. option_to_list key ≡ named_key include.now.kind include.now.name) }
 {

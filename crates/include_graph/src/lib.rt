@@ -1,5 +1,5 @@
-//! Which files a command reaches, and the program that they are, or the rules that they break by how they are read
-//! and named (docs/reach.md).
+//! Loads the files that a command reaches: gives their program, or the rules that they break by how
+//! they are read and named (docs/reach.md).
 #![tactic(auto)]
 
 mod content;

@@ -1,4 +1,5 @@
-//! Loads what the words of a command reach: the program, or what its files break.
+//! Loads the files that the words of a command reach: gives their program, or the rules that they
+//! break.
 ghost use Rattle.std.specs.Prelude.{◌≡◌, ◌≤◌, Err, IfOk, List, length, map, string_bytes};
 ghost use Rattle.std.specs.List.{AllByRecursion};
 ghost use Rattle.ipdl_base.specs.Outside.{Rose};
@@ -21,25 +22,25 @@ use ipdl_lex::{one_answer, words_hold};
 use ipdl_syntax::Program;
 use std::alloc::{AllocError, Global};
 
-/// What the files make that a command reaches.
+/// The result of loading the files that a command reaches.
 #[derive(Drop)]
 pub enum LoadResult {
-    /// Their program, where they break no rule by how they are read and named.
+    /// The program of the files, if they break no rule on how files are read and named.
     Whole(Program),
-    /// What they break so.
+    /// The rules that they break.
     Broken(BrokenFiles),
 }
 
-/// Files that break rules by how they are read and named.
+/// Files that break rules on how files are read and named.
 #[derive(Drop)]
 pub struct BrokenFiles {
-    /// What they break, in no order.
+    /// The findings, in no order.
     pub findings: Findings,
-    /// How each file is called, by its number.
+    /// The name of each file in a report, by its number.
     pub names: Texts,
 }
 
-/// The program of the files that are reached, each of which has a tree.
+/// Returns the program of the files that are reached. Each of them has a tree.
 fn whole(alloc: Global, gathered: FileSet) -> Result<LoadResult, AllocError>
     requires size { length gathered.files.items ≡ length gathered.keys.keys }
     requires trees { AllByRecursion (λ f. IsOfTree f.source.content) gathered.files.items }
@@ -49,7 +50,7 @@ fn whole(alloc: Global, gathered: FileSet) -> Result<LoadResult, AllocError>
     Ok(LoadResult::Whole(program))
 }
 
-/// What was found in the files that are reached.
+/// Returns the files that are reached as broken files with these findings.
 fn broken(
     alloc: Global,
     files: Vec<ReachedFile>,
@@ -64,7 +65,7 @@ fn broken(
     }))
 }
 
-/// What the files that are reached make.
+/// Returns the result of loading the files that are reached.
 fn result_of(alloc: Global, gathered: FileSet) -> Result<LoadResult, AllocError>
     requires { (given : LoadInput) × IsGathered given gathered.words gathered.keys.keys gathered.files.items }
     ensures answer { IfOk result (λ made. (given : LoadInput) → IsGathered given gathered.words gathered.keys.keys gathered.files.items
@@ -90,15 +91,17 @@ fn result_of(alloc: Global, gathered: FileSet) -> Result<LoadResult, AllocError>
     }
 }
 
-/// Loads the files that the names reach, which are looked for in the directories of the path (docs/reach.md).
+/// Loads the files that the names reach, and searches for them in the directories of the path
+/// (docs/reach.md).
 ///
-/// They are `LoadResult::Broken` exactly where they break a rule: with the findings, in no order, and
-/// for each file of the reach the name under which it was read, or its key where there is no such file.
-/// No name is read twice; a directory that stands twice in the path is searched once.
+/// The result is `LoadResult::Broken` exactly if the files break a rule. It has the findings, in no
+/// order, and for each file of the reach the name under which it was read, or its key if there is
+/// no such file. No name is read twice, and a directory that is in the path twice is searched once.
 ///
 /// # Errors
 ///
-/// `Failure::ReadFault` where a read failed, after which nothing is read, and `Failure::NoMemory` where memory ran out.
+/// `Failure::ReadFault` if a read failed (nothing is read after it), and `Failure::NoMemory` if
+/// memory ran out.
 pub fn load<F: Files>(
     alloc: Global,
     files: &mut RecordedFiles<F>,
@@ -107,19 +110,19 @@ pub fn load<F: Files>(
 ) -> Result<LoadResult, Failure>
     requires { AreFileWords (map string_bytes names.now) }
 
-    // For every map of files that agrees with what the reads of this call gave, and some map does: the program of the
-    // reach where no rule is broken, and else what is.
-    ensures reads { IfOk result (λ made. ForReads (F.told (files_of files.old)) (reads_of files.old) (reads_of files.new)
+    // For every map of files that agrees with the reads of this call (some map does): the program
+    // of the reach if no rule is broken, or else the broken rules.
+    ensures reads { IfOk result (λ made. ForReads (F.known (files_of files.old)) (reads_of files.old) (reads_of files.new)
         (λ files'. IsAnswer (record { files = files'; words = map string_bytes names.now; path = map string_bytes path.now }) made)) }
 
-    // A program is one, and broken files are at most 4,096.
+    // A loaded program is as the definition of programs requires, and broken files are at most 4,096.
     ensures good { IfOk result IsGood }
 
-    // The call ends with a fault of a read exactly where a read failed, and then nothing is read after it.
+    // The call ends with a read fault exactly if a read failed, and then nothing is read after it.
     ensures ended { EndsWithReads result (reads_of files.old) (reads_of files.new) }
 
-    // The map of the files stays, and only a failed read gives a fault.
-    ensures told { F.told (files_of files.new) ≡ F.told (files_of files.old) }
+    // The map of the files stays the same, and only a failed read gives a fault.
+    ensures told { F.known (files_of files.new) ≡ F.known (files_of files.old) }
     ensures count { F.faults (files_of files.old) ≤ F.faults (files_of files.new) }
     ensures read_fault { result ≡ Err Failure.ReadFault → Rose (F.faults (files_of files.old)) (F.faults (files_of files.new)) }
 {

@@ -1,3 +1,5 @@
+//! Makes a program from the files that were reached.
+
 ghost use Rattle.std.specs.Prelude.{◌≡◌, IfOk, length, map};
 ghost use Rattle.std.specs.List.{AllByRecursion};
 ghost use Rattle.include_graph.specs.declared.content.Content.TheVariants.{Read};
@@ -11,7 +13,7 @@ use ipdl_base::{Items, Name, Numbers, Texts};
 use ipdl_syntax::{Entry, Program, Unit};
 use std::alloc::{AllocError, Global};
 
-/// The numbers of the files that includes lead to.
+/// Returns the numbers of the files that includes lead to.
 fn numbers_of(alloc: Global, targets: &[Target]) -> Result<Numbers, AllocError>
     ensures { IfOk result (λ numbers. numbers ≡ the_numbers_of targets.now) }
 {
@@ -24,7 +26,7 @@ fn numbers_of(alloc: Global, targets: &[Target]) -> Result<Numbers, AllocError>
     Ok(Items::from_vec(numbers))
 }
 
-/// The tree of a content that has one.
+/// Returns the tree of a content that has one.
 fn unit_of(content: Content) -> Unit
     requires { IsOfTree content }
     ensures { content ≡ Read result }
@@ -35,7 +37,7 @@ fn unit_of(content: Content) -> Unit
     }
 }
 
-/// The entry of a key by what came of it, which has a tree.
+/// Returns the entry of a key from its file, which has a tree.
 fn entry_of(alloc: Global, key: Name, file: ReachedFile) -> Result<Entry, AllocError>
     requires { IsOfTree file.source.content }
     ensures { IfOk result (IsEntryFrom key file) }
@@ -51,7 +53,7 @@ fn entry_of(alloc: Global, key: Name, file: ReachedFile) -> Result<Entry, AllocE
     })
 }
 
-/// The program of the files of these keys, each of which has a tree.
+/// Returns the program of the files of these keys. Each file has a tree.
 pub fn program_of(
     alloc: Global,
     keys: IndexSet<Name>,
@@ -74,7 +76,7 @@ pub fn program_of(
     Ok(Items::from_vec(program))
 }
 
-/// How a report calls a file.
+/// Returns the name of a file in a report.
 fn name_of(file: ReachedFile) -> Name
     ensures { result ≡ file.source.text }
 {
@@ -83,7 +85,7 @@ fn name_of(file: ReachedFile) -> Name
     text
 }
 
-/// How a report calls the files.
+/// Returns the names of the files in a report.
 pub fn names_of(alloc: Global, files: Vec<ReachedFile>) -> Result<Texts, AllocError>
     ensures { IfOk result (λ names. names ≡ map (λ f. f.source.text) files.items) }
 {

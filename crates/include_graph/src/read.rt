@@ -1,4 +1,5 @@
-//! Reads the file of a key: under the word that has it, or in the first directory of the path that has such a file.
+//! Reads the file of a key: under the word that has the key, or in the first directory of the path
+//! with such a file.
 ghost use Rattle.std.specs.Prelude.{◌≡◌, ◌≢◌, ◌≤◌, ◌++◌, Err, IfOk, IfSome, OnOk, Some, None, Option, List, ℕ, map, string_bytes};
 ghost use Rattle.std.specs.List.{AllPairs};
 ghost use Rattle.std.specs.Option.{option_copied, option_or};
@@ -16,15 +17,16 @@ use file_log::RecordedFiles;
 use ipdl_base::{Failure, FileBytes, Files, MOST_BYTES, Name};
 use std::alloc::{AllocError, Global};
 
-/// What came of a key.
+/// The result of reading the file of a key.
 #[derive(Drop)]
 pub struct SourceFile {
-    /// The name under which it was read, or the key where it was read under none.
+    /// The name under which the file was read, or the key if there is no such file.
     pub text: Name,
+    /// The content of the file.
     pub content: Content,
 }
 
-/// What the file of this number and key is read as, by what was found.
+/// Returns the content of the file of this number and key, from what was read.
 fn content_of_found(
     alloc: Global,
     number: u32,
@@ -42,7 +44,7 @@ fn content_of_found(
     }
 }
 
-/// What comes of a key that is read under this word.
+/// Reads the file of a key under this word.
 fn read_word<F: Files>(
     alloc: Global,
     files: &mut RecordedFiles<F>,
@@ -52,10 +54,10 @@ fn read_word<F: Files>(
 ) -> Result<SourceFile, Failure>
     requires word { IsFileWord key.now }
     requires named { key_of word.now ≡ key.now }
-    ensures source { IfOk result (λ source. ForReads (F.told (files_of files.old)) (reads_of files.old) (reads_of files.new) (λ files'. IsSource number key.now files' (Some word.now) source)) }
+    ensures source { IfOk result (λ source. ForReads (F.known (files_of files.old)) (reads_of files.old) (reads_of files.new) (λ files'. IsSource number key.now files' (Some word.now) source)) }
     ensures names { OnOk result (HaveNames (λ name. key_of name ≡ key.now) (reads_of files.old) (reads_of files.new)) }
     ensures ended { EndsWithReads result (reads_of files.old) (reads_of files.new) }
-    ensures told { F.told (files_of files.new) ≡ F.told (files_of files.old) }
+    ensures told { F.known (files_of files.new) ≡ F.known (files_of files.old) }
     ensures count { F.faults (files_of files.old) ≤ F.faults (files_of files.new) }
     ensures read_fault { result ≡ Err Failure.ReadFault → Rose (F.faults (files_of files.old)) (F.faults (files_of files.new)) }
 {
@@ -67,7 +69,7 @@ fn read_word<F: Files>(
     })
 }
 
-/// The name of a key in a directory.
+/// Returns the name of a key in a directory.
 fn in_directory(alloc: Global, directory: &str, key: &str) -> Result<String, AllocError>
     ensures { IfOk result (λ name. string_bytes name ≡ the_name_in directory.now key.now) }
 {
@@ -83,13 +85,14 @@ fn in_directory(alloc: Global, directory: &str, key: &str) -> Result<String, All
 /// A file that was found on the path.
 #[derive(Drop)]
 struct FoundFile {
-    /// The name at which it stands.
+    /// The name under which it was found.
     name: String,
-    /// What was read of it.
+    /// The bytes that were read.
     found: FileBytes,
 }
 
-/// Looks for a key in the directories of the path, and gives the first file of it, if there is one.
+/// Searches for a key in the directories of the path, and returns the first file of this key, or
+/// `None`.
 fn find_on_path<F: Files>(
     alloc: Global,
     files: &mut RecordedFiles<F>,
@@ -98,12 +101,12 @@ fn find_on_path<F: Files>(
 ) -> Result<Option<FoundFile>, Failure>
     requires own { key_of key.now ≡ key.now }
     requires directories { AllPairs (λ one other. one ≢ other) (map (λ directory. directory.now) path.now) }
-    ensures first { IfOk result (λ first. ForReads (F.told (files_of files.old)) (reads_of files.old) (reads_of files.new)
+    ensures first { IfOk result (λ first. ForReads (F.known (files_of files.old)) (reads_of files.old) (reads_of files.new)
         (λ files'. IsFirstOnPath files' (map (λ directory. directory.now) path.now) key.now first)) }
     ensures small { IfOk result (λ first. IfSome first (λ file. HasAtMost MOST_BYTES file.found)) }
     ensures names { OnOk result (HaveNames (λ name. key_of name ≡ key.now) (reads_of files.old) (reads_of files.new)) }
     ensures ended { EndsWithReads result (reads_of files.old) (reads_of files.new) }
-    ensures told { F.told (files_of files.new) ≡ F.told (files_of files.old) }
+    ensures told { F.known (files_of files.new) ≡ F.known (files_of files.old) }
     ensures count { F.faults (files_of files.old) ≤ F.faults (files_of files.new) }
     ensures read_fault { result ≡ Err Failure.ReadFault → Rose (F.faults (files_of files.old)) (F.faults (files_of files.new)) }
 {
@@ -117,7 +120,7 @@ fn find_on_path<F: Files>(
     Ok(None)
 }
 
-/// What comes of a key whose file was found.
+/// Returns the result for a key whose file was found.
 fn source_of_found(
     alloc: Global,
     number: u32,
@@ -137,7 +140,7 @@ fn source_of_found(
     })
 }
 
-/// What comes of a key without a file.
+/// Returns the result for a key without a file.
 fn absent_source(alloc: Global, key: &[u8]) -> Result<SourceFile, AllocError>
     ensures text { IfOk result (λ source. source.text ≡ key.now) }
     ensures content { IfOk result (λ source. source.content ≡ Absent) }
@@ -148,7 +151,7 @@ fn absent_source(alloc: Global, key: &[u8]) -> Result<SourceFile, AllocError>
     })
 }
 
-/// What comes of a key that is looked for on the path.
+/// Searches for the file of a key on the path, and reads it.
 fn read_on_path<F: Files>(
     alloc: Global,
     files: &mut RecordedFiles<F>,
@@ -160,11 +163,11 @@ fn read_on_path<F: Files>(
     requires own { key_of key.now ≡ key.now }
     requires utf8 { IsUtf8 key.now }
     requires directories { AllPairs (λ one other. one ≢ other) (map (λ directory. directory.now) path.now) }
-    ensures source { IfOk result (λ source. ForReads (F.told (files_of files.old)) (reads_of files.old) (reads_of files.new)
+    ensures source { IfOk result (λ source. ForReads (F.known (files_of files.old)) (reads_of files.old) (reads_of files.new)
         (λ files'. IsSource number key.now files' (name_on_path files' (map (λ directory. directory.now) path.now) key.now) source)) }
     ensures names { OnOk result (HaveNames (λ name. key_of name ≡ key.now) (reads_of files.old) (reads_of files.new)) }
     ensures ended { EndsWithReads result (reads_of files.old) (reads_of files.new) }
-    ensures told { F.told (files_of files.new) ≡ F.told (files_of files.old) }
+    ensures told { F.known (files_of files.new) ≡ F.known (files_of files.old) }
     ensures count { F.faults (files_of files.old) ≤ F.faults (files_of files.new) }
     ensures read_fault { result ≡ Err Failure.ReadFault → Rose (F.faults (files_of files.old)) (F.faults (files_of files.new)) }
 {
@@ -177,7 +180,7 @@ fn read_on_path<F: Files>(
     }
 }
 
-/// What comes of a key, which is read under a word or looked for on the path.
+/// Reads the file of a key under the word that has the key, or from the path if no word has it.
 pub fn read_key<F: Files>(
     alloc: Global,
     files: &mut RecordedFiles<F>,
@@ -191,11 +194,11 @@ pub fn read_key<F: Files>(
     requires named { (text : List ℕ) → option_copied word ≡ Some text → key_of text ≡ key.now }
     requires utf8 { option_copied word ≡ None → IsUtf8 key.now }
     requires directories { AllPairs (λ one other. one ≢ other) (map (λ directory. directory.now) path.now) }
-    ensures source { IfOk result (λ source. ForReads (F.told (files_of files.old)) (reads_of files.old) (reads_of files.new)
+    ensures source { IfOk result (λ source. ForReads (F.known (files_of files.old)) (reads_of files.old) (reads_of files.new)
         (λ files'. IsSource number key.now files' (option_or (option_copied word.entry) (name_on_path files' (map (λ directory. directory.now) path.now) key.now)) source)) }
     ensures names { OnOk result (HaveNames (λ name. key_of name ≡ key.now) (reads_of files.old) (reads_of files.new)) }
     ensures ended { EndsWithReads result (reads_of files.old) (reads_of files.new) }
-    ensures told { F.told (files_of files.new) ≡ F.told (files_of files.old) }
+    ensures told { F.known (files_of files.new) ≡ F.known (files_of files.old) }
     ensures count { F.faults (files_of files.old) ≤ F.faults (files_of files.new) }
     ensures read_fault { result ≡ Err Failure.ReadFault → Rose (F.faults (files_of files.old)) (F.faults (files_of files.new)) }
 {

@@ -1,3 +1,5 @@
+//! The rules that files break by how they are read and named.
+
 ghost use Rattle.std.specs.Prelude.{◌≡◌, ◌↔◌, ◌≤◌, ℕ, IfOk, OnOk, IsTrue, length};
 ghost use Rattle.std.specs.List.{Contains};
 ghost use Rattle.ipdl_base.specs.declared.finding.Finding.{Finding};
@@ -12,7 +14,7 @@ use ipdl_base::{Finding, Name, Place, Rule};
 use ipdl_syntax::{Include, Unit};
 use std::alloc::{AllocError, Global};
 
-/// Adds a finding.
+/// Adds a finding of this rule at this place.
 fn add(rule: Rule, place: Place, found: &mut Vec<Finding>) -> Result<(), AllocError>
     ensures { OnOk result (Gains (λ f. f ≡ finding_at rule place) found.old.items found.new.items) }
 {
@@ -20,7 +22,7 @@ fn add(rule: Rule, place: Place, found: &mut Vec<Finding>) -> Result<(), AllocEr
     Ok(())
 }
 
-/// A file as a whole.
+/// Returns the place that means a whole file.
 fn whole_file(number: u32) -> Place
     ensures { result ≡ the_whole_file number }
 {
@@ -31,7 +33,7 @@ fn whole_file(number: u32) -> Place
     }
 }
 
-/// Adds what comes of the name of the protocol, where the file of this key has one.
+/// Adds the finding on the name of the protocol, if the file of this key has a protocol.
 fn add_of_name(key: &[u8], unit: &Unit, found: &mut Vec<Finding>) -> Result<(), AllocError>
     ensures { OnOk result (Gains (IsFoundOfName key.now unit.now) found.old.items found.new.items) }
 {
@@ -47,7 +49,7 @@ fn add_of_name(key: &[u8], unit: &Unit, found: &mut Vec<Finding>) -> Result<(), 
     }
 }
 
-/// Whether the file of this number is absent.
+/// Returns whether the file of this number is absent.
 fn is_absent_at(files: &[ReachedFile], number: u32) -> bool
     ensures { result ≡ is_absent_at files.now number }
 {
@@ -57,7 +59,7 @@ fn is_absent_at(files: &[ReachedFile], number: u32) -> bool
     }
 }
 
-/// Adds what comes of an include and what it leads to.
+/// Adds the findings on an include and on what it leads to.
 fn add_for(
     include: &Include,
     target: Target,
@@ -79,7 +81,7 @@ fn add_for(
     }
 }
 
-/// Adds what comes of the includes.
+/// Adds the findings on includes.
 fn add_among(
     includes: &[Include],
     targets: &[Target],
@@ -94,7 +96,7 @@ fn add_among(
     Ok(())
 }
 
-/// Adds what comes of the file of this number and key, which a word names or not.
+/// Adds the findings on the file of this number and key. `word` is whether a word names it.
 fn add_in(
     number: u32,
     word: bool,
@@ -128,7 +130,8 @@ fn add_in(
     }
 }
 
-/// What comes of the files of these keys, the first so many of which are named by words, in some order.
+/// Returns the findings on the files of these keys, in some order. The first `words` keys are named
+/// by words.
 pub fn found_in(
     alloc: Global,
     words: usize,

@@ -37,6 +37,7 @@ pub enum Target {
 /// A file that is reached.
 #[derive(Drop)]
 pub struct ReachedFile {
+    /// The file as it was read.
     pub source: SourceFile,
     /// What each include of its tree leads to.
     pub targets: Vec<Target>,
@@ -62,7 +63,7 @@ fn add_words<'a>(
     Ok(())
 }
 
-/// Gives the directories of the path, each once, in the order in which they come first.
+/// Returns the directories of the path, each once, in the order of their first occurrences.
 fn distinct_directories<'a>(alloc: Global, path: &'a [String]) -> Result<Vec<&'a str>, AllocError>
     ensures { IfOk result (λ distinct. AreDifferent (map string_bytes path.now) (map (λ directory. directory.now) distinct.items)) }
 {
@@ -77,7 +78,7 @@ fn distinct_directories<'a>(alloc: Global, path: &'a [String]) -> Result<Vec<&'a
     Ok(distinct)
 }
 
-/// Adds the key of an include, where it names one and there is room.
+/// Adds the key of the file that an include names, if it names one and there is room.
 fn add_include(
     alloc: Global,
     include: &Include,
@@ -134,7 +135,8 @@ fn add_named(
     }
 }
 
-/// Reads the files of the keys, in order, and adds the keys that they name. These begin as those of the words.
+/// Reads the files of the keys in order, and adds the keys that they name. `keys` begins with those
+/// of the words.
 fn walk<F: Files>(
     alloc: Global,
     files: &mut RecordedFiles<F>,
@@ -146,10 +148,10 @@ fn walk<F: Files>(
     requires words { AreFileWords (map string_bytes words.now) }
     requires directories { AllPairs (λ one other. one ≢ other) (map (λ directory. directory.now) path.now) }
     requires keys { HasWords (map string_bytes words.now) keys.old.keys (map (λ first. first.now) firsts.now) }
-    ensures read { IfOk result (λ reached. ForReads (F.told (files_of files.old)) (reads_of files.old) (reads_of files.new) (λ files'. AreRead
+    ensures read { IfOk result (λ reached. ForReads (F.known (files_of files.old)) (reads_of files.old) (reads_of files.new) (λ files'. AreRead
         (record { files = files'; words = map string_bytes words.now; path = map (λ directory. directory.now) path.now }) keys.new.keys reached.items)) }
     ensures ended { EndsWithReads result (reads_of files.old) (reads_of files.new) }
-    ensures told { F.told (files_of files.new) ≡ F.told (files_of files.old) }
+    ensures told { F.known (files_of files.new) ≡ F.known (files_of files.old) }
     ensures count { F.faults (files_of files.old) ≤ F.faults (files_of files.new) }
     ensures read_fault { result ≡ Err Failure.ReadFault → Rose (F.faults (files_of files.old)) (F.faults (files_of files.new)) }
 {
@@ -166,13 +168,14 @@ fn walk<F: Files>(
     Ok(reached)
 }
 
-/// What is kept of the files that are reached.
+/// The files that are reached, with their keys.
 #[derive(Drop)]
 pub struct FileSet {
-    /// How many keys are those of words. They come first.
+    /// The number of keys of words. They come first.
     pub words: usize,
+    /// The keys in the order of the reach.
     pub keys: IndexSet<Name>,
-    /// What came of each key.
+    /// The file of each key.
     pub files: Vec<ReachedFile>,
 }
 
@@ -184,10 +187,10 @@ pub fn gather<F: Files>(
     path: &[String],
 ) -> Result<FileSet, Failure>
     requires { AreFileWords (map string_bytes words.now) }
-    ensures gathered { IfOk result (λ g. ForReads (F.told (files_of files.old)) (reads_of files.old) (reads_of files.new) (λ files'. IsGathered
+    ensures gathered { IfOk result (λ g. ForReads (F.known (files_of files.old)) (reads_of files.old) (reads_of files.new) (λ files'. IsGathered
         (record { files = files'; words = map string_bytes words.now; path = map string_bytes path.now }) g.words g.keys.keys g.files.items)) }
     ensures ended { EndsWithReads result (reads_of files.old) (reads_of files.new) }
-    ensures told { F.told (files_of files.new) ≡ F.told (files_of files.old) }
+    ensures told { F.known (files_of files.new) ≡ F.known (files_of files.old) }
     ensures count { F.faults (files_of files.old) ≤ F.faults (files_of files.new) }
     ensures read_fault { result ≡ Err Failure.ReadFault → Rose (F.faults (files_of files.old)) (F.faults (files_of files.new)) }
 {

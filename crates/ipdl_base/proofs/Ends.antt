@@ -27,13 +27,13 @@ same_is xs ys = (decided xs ys).0
 pub is_itself : (xs : List ℕ) → same xs xs ≡ true
 is_itself xs = (decided xs xs).1 refl
 
--- a text whose back is the ending has it behind some front
+-- a text whose last bytes are the ending has the ending after some prefix
 pub ends : (text ending : List ℕ) → same ending (drop (length text - length ending) text) ≡ true → (front : List ℕ) × (text ≡ front ++ ending)
 ends text ending h =
     let n = length text - length ending in
     (take n text, sym (take-append-drop n text) ∙ ap (λ back. take n text ++ back) (sym (same_is ending (drop n text) h)))
 
--- and one that has it behind a front has it as its back
+-- a text that has the ending after a prefix has it as its last bytes
 pub has_ending : (text ending front : List ℕ) → text ≡ front ++ ending → same ending (drop (length text - length ending) text) ≡ true
 has_ending text ending front e =
     let n : length text - length ending ≡ length front = omega (arith, ap length e, length-append front ending) in

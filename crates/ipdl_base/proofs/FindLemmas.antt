@@ -14,7 +14,7 @@ past_end p xs h = grind (arith, nat_tests)
 pub find_nowhere : {X : Type 0} (p : X → Bool) (xs : List X) → position p xs ≡ None → find p xs ≡ None
 find_nowhere p xs h = find_at p xs ∙ slice_get_past xs (position_or_len p xs) (past_end p xs h)
 
--- what stands at the first place is found
+-- the element at the first place is found
 pub find_there : {X : Type 0} (p : X → Bool) (xs : List X) (i : ℕ) (d : X) → position p xs ≡ Some i → find p xs ≡ Some (get_or xs i d)
 find_there p xs i d h =
     let at : position_or_len p xs ≡ i = grind (arith, nat_tests) in

@@ -1,4 +1,4 @@
-pub mod Behind
+pub mod Following
 pub mod Ends
 pub mod FindLemmas
 pub mod Held

@@ -1,4 +1,4 @@
--- The bytes behind the last colon, as the short name.
+-- The bytes after the last colon, as the short name.
 use Rattle.std.proofs.Common.{◌≡◌, ℕ, zero, suc, ◌<◌, ◌==◌, Bool, true, false, List, [], ◌∷◌, length, drop, get_or, refl, arith}
 use Rattle.std.specs.List.{list_any}
 use Rattle.ipdl_base.specs.Words.{short_name}
@@ -18,8 +18,8 @@ pub all_short : (xs : List ℕ) → list_any is_colon xs ≡ false → xs ≡ sh
 all_short [] none = refl
 all_short (x ∷ xs) none = grind (arith, common_steps, none)
 
--- the short name stands behind the last colon
-pub short_behind : (xs : List ℕ) (i : ℕ) → i < length xs → get_or xs i 0 ≡ 58 → list_any is_colon (drop (suc i) xs) ≡ false → drop (suc i) xs ≡ short_name xs
-short_behind [] i within is none = absurd (omega arith)
-short_behind (x ∷ xs) zero within is none = rw (none, is) refl
-short_behind (x ∷ xs) (suc i) within is none = rw (colon_among xs i (omega arith) is) (short_behind xs i (omega arith) is none)
+-- the short name follows the last colon
+pub short_after : (xs : List ℕ) (i : ℕ) → i < length xs → get_or xs i 0 ≡ 58 → list_any is_colon (drop (suc i) xs) ≡ false → drop (suc i) xs ≡ short_name xs
+short_after [] i within is none = absurd (omega arith)
+short_after (x ∷ xs) zero within is none = rw (none, is) refl
+short_after (x ∷ xs) (suc i) within is none = rw (colon_among xs i (omega arith) is) (short_after xs i (omega arith) is none)

@@ -1,3 +1,4 @@
+-- The names of the builtin types, and which of them a channel carries.
 use Rattle.std.specs.Prelude.{ℕ, Bool, true, false, List, codes}
 use Rattle.ipdl_base.specs.declared.builtin.Builtin.{Builtin}
 use Rattle.ipdl_base.specs.declared.builtin.Builtin.TheVariants as builtin

@@ -1,3 +1,4 @@
+-- The rule of deferral.
 use Rattle.std.specs.Prelude.{ℕ, ℤ, Bool, true, false, not, nat_lt, if◌then◌else◌, Option, Some, None}
 use Rattle.std.specs.Ordering.{int_eq}
 use Rattle.ipdl_base.specs.declared.kinds.Level.{Level}
@@ -11,7 +12,7 @@ rank Not = 0
 rank InsideSync = 1
 rank InsideCpow = 2
 
--- whether the inner transaction is there and is this one
+-- whether there is an inner transaction and it is this one
 abbrev pub is_inner : Option ℤ → ℤ → Bool
 is_inner None transaction = false
 is_inner (Some inner) transaction = int_eq inner transaction

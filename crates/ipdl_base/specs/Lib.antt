@@ -3,10 +3,10 @@ pub mod Deferral
 pub mod FileNames
 pub mod Lines
 pub mod NameBytes
-pub mod Memory
 pub mod Outside
 pub mod Plain
 pub mod Rules
+pub mod Sides
 pub mod Signatures
 pub mod Sound
 pub mod TokenView

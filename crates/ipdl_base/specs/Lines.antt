@@ -1,4 +1,4 @@
--- Small words on the lines of a history.
+-- Tests of sides and of the lines of a history.
 use Rattle.std.specs.Prelude.{Bool, true, false}
 use Rattle.ipdl_base.specs.declared.kinds.Side.{Side}
 use Rattle.ipdl_base.specs.declared.kinds.Side.TheVariants as side

@@ -8,7 +8,7 @@ abbrev pub held_bytes : NameBytes → List ℕ
 held_bytes (Short len bytes) = take len bytes
 held_bytes (Long bytes) = bytes.value.items
 
--- a name holds in itself as many bytes as it has room for, and only more than these elsewhere
+-- a name stores up to 22 bytes in itself, and more than these elsewhere
 abbrev pub FitsRoom : NameBytes → Type 0
 FitsRoom (Short len _) = len ≤ 22
 FitsRoom (Long bytes) = 22 < length bytes.value.items

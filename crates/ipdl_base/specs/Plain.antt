@@ -16,7 +16,7 @@ use Rattle.ipdl_base.specs.declared.value.Values.TheVariants as values
 abbrev pub one_box : Box (Unit {0}) Global
 one_box = record { ptr = null_ptr; alloc = record { memory = record { seal = tt } }; value = tt }
 
--- a value, what a maybe holds, and values, with every box there
+-- a value, the value in a maybe, and values, with every box there
 abbrev mutual
   pub plain : Value → Value
   plain (value.Bool b) = value.Bool b

@@ -59,6 +59,7 @@ rule_texts =
     (rule.SHORT_PAYLOAD, codes "payload too short") ∷
     (rule.LONG_PAYLOAD, codes "payload too long") ∷
     (rule.BAD_VALUE, codes "bad value") ∷
+    (rule.NOT_ONE_FRAME, codes "not one frame") ∷
     (rule.UNSENT_REQUEST, codes "wrong direction") ∷
     (rule.WRONG_NUMBER, codes "wrong number") ∷
     (rule.WRONG_ID, codes "wrong id") ∷
@@ -71,7 +72,7 @@ rule_texts =
 abbrev pub is_same_rule : Rule → Rule → Bool
 is_same_rule one other = one.letter == other.letter && one.number == other.number
 
--- the text of a rule in a table; nothing where it is not there
+-- the text of a rule in a table, or an empty text if the table does not have the rule
 abbrev pub text_in : List (Rule × List ℕ) → Rule → List ℕ
 text_in [] rule = []
 text_in (row ∷ rows) rule = if is_same_rule rule row.0 then row.1 else text_in rows rule

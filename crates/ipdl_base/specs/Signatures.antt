@@ -6,11 +6,11 @@ use Rattle.ipdl_base.specs.declared.schema.ParamRow.{ParamRow}
 use Rattle.ipdl_base.specs.declared.schema.Schema.{Schema}
 use Rattle.ipdl_base.specs.Sound.{message_of}
 
--- the parameters of the message of a number, and none where there is no such message
+-- the parameters of the message of a number, or no parameters if there is no such message
 abbrev pub params_of : Schema → ℕ → List ParamRow
 params_of schema number = option_map_or (λ message. message.params) (message_of schema number) []
 
--- the returns of a message, and none where it has none
+-- the returns of a message, or no returns if it has none
 abbrev pub returns_of_row : MessageRow → List ParamRow
 returns_of_row message = option_map_or (λ returns. returns) message.returns []
 

@@ -1,3 +1,4 @@
+-- Sound schemas: what the rules demand of the tables of a program.
 use Rattle.std.specs.Prelude.{◌≡◌, ◌≢◌, ℕ, ◌+◌, ◌*◌, ◌<◌, ◌≤◌, ◌↔◌, ◌⊎◌, Bool, true, false, ◌&&◌, ◌||◌, ◌==◌, IsTrue, is_some, List, length, slice_get, codes, Option, Some, None, IfSome, IsSomeAnd}
 use Rattle.std.specs.List.{All, Any, AllPairs, Contains, flat_map, find}
 use Rattle.ipdl_base.specs.declared.kinds.Level.TheVariants as level
@@ -36,7 +37,7 @@ abbrev pub IsTypeInRange : ℕ → ℕ → TypeRow → Type 0
 IsTypeInRange protocols types (Struct name fields) = All (IsFieldInRange protocols types) fields
 IsTypeInRange protocols types (Union name components) = All (IsInRange protocols types) components
 
--- A shape mentions, perhaps through named types, one that is not carried.
+-- A shape mentions a type that is not carried, perhaps through named types.
 pub data MentionsUncarried (types : List TypeRow) : Shape → Type 0 where
   builtin : {b : _} → is_carried b ≡ false → MentionsUncarried types (Builtin b)
   endpoint : {p : _} {managed : _} → MentionsUncarried types (Endpoint p managed)
@@ -46,7 +47,7 @@ pub data MentionsUncarried (types : List TypeRow) : Shape → Type 0 where
   in_struct : {t : ℕ} (name : List ℕ) (fields : List ParamRow) (field : ParamRow) → slice_get types t ≡ Some (Struct name fields) → Contains fields field → MentionsUncarried types field.shape → MentionsUncarried types (Named t)
   in_union : {t : ℕ} (name : List ℕ) (components : List Shape) (component : Shape) → slice_get types t ≡ Some (Union name components) → Contains components component → MentionsUncarried types component → MentionsUncarried types (Named t)
 
--- A shape is defined: that it is has a finite derivation. A struct is where all its fields are, a union where one component is.
+-- A shape is defined: it has a finite derivation. A struct is defined if all its fields are, a union if one component is.
 pub data IsDefined (types : List TypeRow) : Shape → Type 0 where
   builtin : {b : _} → IsDefined types (Builtin b)
   using_type : {name : _} → IsDefined types (Using name)
@@ -63,7 +64,7 @@ abbrev pub MessageMentionsUncarried : List TypeRow → MessageRow → Type 0
 MessageMentionsUncarried types message =
     Any (λ p. MentionsUncarried types p.shape) message.params ⊎ IsSomeAnd message.returns (λ returns. Any (λ p. MentionsUncarried types p.shape) returns)
 
--- a protocol of this number is there, and this is its short name
+-- there is a protocol of this number, and this is its short name
 abbrev pub IsNamed : List ProtocolRow → ℕ → List ℕ → Type 0
 IsNamed protocols p name = IsSomeAnd (slice_get protocols p) (λ protocol. short_name protocol.name ≡ name)
 
@@ -73,7 +74,7 @@ IsKindOf protocols protocol name Delete = name ≡ codes "__delete__"
 IsKindOf protocols protocol name (Constructor p) = (name ≢ codes "__delete__") × Contains protocol.manages p × IsNamed protocols p name
 IsKindOf protocols protocol name Normal = (name ≢ codes "__delete__") × ((p : ℕ) → Contains protocol.manages p → ¬ IsNamed protocols p name)
 
--- An async message that neither makes an actor nor lets one fall.
+-- An async message that neither makes an actor nor destroys one.
 abbrev pub IsPlainAsync : MessageRow → Type 0
 IsPlainAsync message = (message.semantics ≡ Async) × (message.kind ≡ Normal)
 

@@ -3,7 +3,7 @@ use Rattle.std.specs.Prelude.{ℕ, List}
 use Rattle.ipdl_base.specs.declared.finding.Place.{Place}
 use Rattle.ipdl_base.specs.declared.token.TokenKind.{TokenKind}
 
--- what the token is, its bytes as they stand in the text, and the place of the first of them
+-- the kind of the token, its bytes as they are in the text, and the place of the first of them
 pub record TokenView : Type 0 where
   pub kind : TokenKind
   pub text : List ℕ

@@ -9,6 +9,6 @@ use Rattle.ipdl_base.specs.Words.{IsWord}
 abbrev pub AreSpelled : List Token → Type 0
 AreSpelled tokens = AllByRecursion (λ t. t.kind ≡ Word → IsWord t.text) tokens
 
--- each token stands in the file of this number
+-- each token is in the file of this number
 abbrev pub StandIn : ℕ → List Token → Type 0
 StandIn number tokens = AllByRecursion (λ t. t.place.file ≡ number) tokens

@@ -1,3 +1,4 @@
+-- Words and names.
 use Rattle.std.specs.Prelude.{◌≡◌, ℕ, Bool, false, ◌||◌, ◌&&◌, ◌==◌, nat_le, IsTrue, if◌then◌else◌, List, [], ◌∷◌, ◌++◌}
 use Rattle.std.specs.List.{list_any, list_all, AllByRecursion}
 
@@ -27,7 +28,7 @@ joined (w ∷ v ∷ ws) = w ++ 58 ∷ 58 ∷ joined (v ∷ ws)
 abbrev pub IsFullName : List ℕ → Type 0
 IsFullName name = (first : List ℕ) × (others : List (List ℕ)) × AllByRecursion IsWord (first ∷ others) × (name ≡ joined (first ∷ others))
 
--- what stands behind the last colon, or all where there is none
+-- what follows the last colon, or all if there is no colon
 abbrev pub short_name : List ℕ → List ℕ
 short_name [] = []
 short_name (b ∷ bs) = if list_any (λ c. c == 58) bs then short_name bs else (if b == 58 then bs else b ∷ bs)

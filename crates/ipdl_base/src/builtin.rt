@@ -1,3 +1,4 @@
+//! The builtin types and their names.
 ghost use Rattle.std.specs.Prelude.{◌≡◌, IfSome, IfNone, length, true};
 ghost use Rattle.std.specs.List.{Contains};
 ghost use Rattle.ipdl_base.specs.Builtins.{builtin_name, is_carried};
@@ -32,7 +33,7 @@ pub enum Builtin {
 }
 
 impl Builtin {
-    /// The word by which a type names the builtin.
+    /// Returns the word by which a type names the builtin.
     pub fn name(self) -> &'static [u8]
         ensures { result.now ≡ builtin_name self }
     {
@@ -63,7 +64,7 @@ impl Builtin {
         }
     }
 
-    /// The builtin with this name, or nothing where no builtin has it.
+    /// Returns the builtin with this name, or `None` if no builtin has it.
     pub fn from_name(name: &[u8]) -> Option<Builtin>
         ensures some { IfSome result (λ found. builtin_name found ≡ name.now) }
         ensures none { IfNone result ((other : Builtin) → ¬ (builtin_name other ≡ name.now)) }
@@ -77,7 +78,7 @@ impl Builtin {
             .find(|builtin| builtin.name() == name)
     }
 
-    /// Whether a channel carries values of the type.
+    /// Returns whether a channel carries values of the type.
     pub fn is_carried(self) -> bool
         ensures { result ≡ is_carried self }
     {
@@ -85,7 +86,7 @@ impl Builtin {
     }
 }
 
-/// Whether a name ends in a byte in which that of some builtin ends.
+/// Returns whether the last byte of a name is the last byte of some builtin's name.
 fn ends_as_builtin(name: &[u8]) -> bool
     ensures { (other : Builtin) → builtin_name other ≡ name.now → result ≡ true }
 {
@@ -95,7 +96,7 @@ fn ends_as_builtin(name: &[u8]) -> bool
     }
 }
 
-/// The builtins whose names have so many bytes, those that files name most before the others.
+/// Returns the builtins whose names have `bytes` bytes, the most common ones first.
 fn of_length(bytes: usize) -> &'static [Builtin]
     ensures { (other : Builtin) → length (builtin_name other) ≡ bytes → Contains result.now other }
 {

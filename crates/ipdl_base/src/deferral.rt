@@ -1,10 +1,11 @@
+//! The order of levels, and which requests an end defers while it waits for a reply.
 ghost use Rattle.std.specs.Prelude.{◌≡◌};
 ghost use Rattle.ipdl_base.specs.Deferral.{defers_request, rank};
 
 use crate::kinds::{Level, Side};
 
 impl Level {
-    /// The place of the level in their order, from 0.
+    /// Returns the place of the level in the order of levels, from 0.
     pub fn rank(self) -> u8
         ensures { result ≡ rank self }
     {
@@ -16,9 +17,9 @@ impl Level {
     }
 }
 
-/// Whether an end on this side that awaits a reply of level `awaited` defers a request, where `inner`
-/// is the transaction of its innermost frame of a sync message of level `InsideSync`. No request of
-/// level `InsideCpow` is deferred, and any other async one is. A sync one is where its level is below
+/// Returns whether an end on this side that awaits a reply of level `awaited` defers a request. `inner` is the
+/// transaction of the end's innermost frame of a sync message of level `InsideSync`. No request of level
+/// `InsideCpow` is deferred, and every other async request is. A sync request is deferred if its level is below
 /// `awaited`; at the same level only the parent defers it, and only outside the inner transaction.
 pub fn defers_request(
     side: Side,

@@ -1,26 +1,27 @@
+//! Files that can be read by name, and what a read gives.
 ghost use Rattle.std.specs.Prelude.{◌≡◌, ℕ, ◌≤◌, Option, Some, Err, IfOk, IfSome};
 
 use std::alloc::{AllocError, AllocFailed, Global};
 
-/// The most bytes that are read of a file, but for a text to audit, which has a bound of its own.
+/// The most bytes that are read of a file. A text to audit has a bound of its own.
 pub const MOST_BYTES: usize = 1_048_576;
 
-/// What stands at a name, of which no more than so many bytes are read.
+/// The result of a read by name that gives at most a number of bytes.
 #[derive(Debug, Drop)]
 pub enum FileBytes {
-    /// No file.
+    /// There is no file of this name.
     Absent,
-    /// A file with more bytes.
+    /// The file has more bytes.
     Larger,
-    /// A file with these bytes.
+    /// The file has these bytes.
     Bytes(Vec<u8>),
 }
 
 impl FileBytes {
     ghost use Rattle.ipdl_base.specs.Outside.{HasAtMost, IsHeldWithin};
 
-    /// What is read of a file of these bytes, of which no more than `limit` are given. The only error is
-    /// want of memory.
+    /// Returns what a read gives of a file of these bytes, of which at most `limit` are read. Fails only if memory
+    /// runs out.
     pub fn of_bytes(alloc: Global, bytes: &[u8], limit: usize) -> Result<FileBytes, AllocError>
         ensures small { IfOk result (HasAtMost limit) }
         ensures held { IfOk result (IsHeldWithin limit (Some bytes.now)) }
@@ -32,7 +33,7 @@ impl FileBytes {
     }
 }
 
-/// Why a call that reads files gives nothing.
+/// Why a call that reads files fails.
 #[derive(Clone, Copy, Debug, PartialEq, Eq)]
 pub enum Failure {
     /// A read failed.
@@ -65,17 +66,21 @@ impl<T: Drop> From<AllocFailed<T>> for Failure {
 pub trait Files {
     ghost use Rattle.ipdl_base.specs.Outside.{FileMap, Rose, HasAtMost, IsHeldWithin};
 
-    /// What each name has, where it is told. It never changes.
-    ghost told: { Self → Option FileMap };
+    /// The bytes of each name, if they are known. They never change.
+    ghost known: { Self → Option FileMap };
 
-    /// How many reads have failed.
+    /// The number of reads that have failed.
     ghost faults: { Self → ℕ };
 
-    /// Reads the file of this name, of which no more than `limit` bytes are given.
+    /// Reads the file of this name, and gives at most `limit` bytes of it.
+    ///
+    /// # Errors
+    ///
+    /// `Failure::ReadFault` if the read failed, and `Failure::NoMemory` if memory ran out.
     fn read(&mut self, alloc: Global, name: &str, limit: usize) -> Result<FileBytes, Failure>
-        ensures map { told self.new ≡ told self.old }
+        ensures map { known self.new ≡ known self.old }
         ensures count { faults self.old ≤ faults self.new }
         ensures failed { result ≡ Err Failure.ReadFault → Rose (faults self.old) (faults self.new) }
         ensures small { IfOk result (HasAtMost limit) }
-        ensures held { IfOk result (λ found. IfSome (told self.old) (λ files. IsHeldWithin limit (files name.now) found)) };
+        ensures held { IfOk result (λ found. IfSome (known self.old) (λ files. IsHeldWithin limit (files name.now) found)) };
 }

@@ -1,3 +1,4 @@
+//! Rules with their texts, and the findings and reports of what breaks them.
 ghost use Rattle.std.specs.Prelude.{◌≡◌, ◌∷◌, ◌++◌, Some, codes};
 ghost use Rattle.ipdl_base.specs.Rules.{rule_text, rule_name, rule_line};
 
@@ -5,20 +6,23 @@ use crate::items::Items;
 use crate::name::Texts;
 use std::fmt;
 
-/// A place in a file. Lines and columns count from 1, in bytes; line 0 and column 0 mean the file
-/// as a whole.
+/// A place in a file. Lines and columns count from 1, in bytes; line 0 and column 0 mean the whole file.
 #[derive(Clone, Copy, Debug, PartialEq, Eq, PartialOrd, Ord)]
 pub struct Place {
-    /// The file's number: its index in the list of files that are read.
+    /// The number of the file: its index in the list of files that are read.
     pub file: u32,
+    /// The line, from 1, or 0 for the whole file.
     pub line: u32,
+    /// The column in bytes, from 1, or 0 for the whole file.
     pub column: u32,
 }
 
-/// A rule by its letter, in ASCII, and its number, as A1 or B21 (docs/formats.md, "Findings").
+/// A rule by its letter and its number, such as A1 or B21 (docs/formats.md, "Findings").
 #[derive(Clone, Copy, Debug, PartialEq, Eq, PartialOrd, Ord)]
 pub struct Rule {
+    /// The letter, in ASCII.
     pub letter: u8,
+    /// The number, from 1.
     pub number: u8,
 }
 
@@ -29,19 +33,19 @@ impl Rule {
         number: 1,
     };
 
-    /// A file with tokens has no tree, or the sync list has a line not of its format.
+    /// A file with tokens has no tree, or a line of the sync list is not of its format.
     pub const SYNTAX_FAULT: Rule = Rule {
         letter: b'A',
         number: 2,
     };
 
-    /// A file that is named is absent.
+    /// A named file does not exist.
     pub const FILE_NOT_FOUND: Rule = Rule {
         letter: b'A',
         number: 3,
     };
 
-    /// A protocol has another name than its file.
+    /// The name of a protocol differs from that of its file.
     pub const MISNAMED_PROTOCOL: Rule = Rule {
         letter: b'A',
         number: 4,
@@ -53,13 +57,13 @@ impl Rule {
         number: 5,
     };
 
-    /// A type's name finds nothing.
+    /// The name of a type finds nothing.
     pub const UNKNOWN_TYPE: Rule = Rule {
         letter: b'B',
         number: 1,
     };
 
-    /// A type's name finds two or more.
+    /// The name of a type finds two types or more.
     pub const AMBIGUOUS_TYPE: Rule = Rule {
         letter: b'B',
         number: 2,
@@ -77,19 +81,19 @@ impl Rule {
         number: 4,
     };
 
-    /// `nullable` stands on another base than an actor.
+    /// `nullable` is on a base that is not an actor.
     pub const NULLABLE_NON_ACTOR: Rule = Rule {
         letter: b'B',
         number: 5,
     };
 
-    /// A field has the name of an earlier one.
+    /// A field has the name of an earlier field.
     pub const REPEATED_FIELD: Rule = Rule {
         letter: b'B',
         number: 6,
     };
 
-    /// An attribute is repeated or has no listed value.
+    /// An attribute is repeated, or its value is not one of those allowed.
     pub const BAD_ATTRIBUTE: Rule = Rule {
         letter: b'B',
         number: 7,
@@ -101,13 +105,13 @@ impl Rule {
         number: 8,
     };
 
-    /// One of two protocols names the other, and that does not name it.
+    /// One of two protocols names the other, which does not name it in return.
     pub const MANAGER_DISAGREEMENT: Rule = Rule {
         letter: b'B',
         number: 9,
     };
 
-    /// A protocol has more messages than it may.
+    /// A protocol has too many messages.
     pub const TOO_MANY_MESSAGES: Rule = Rule {
         letter: b'B',
         number: 10,
@@ -149,7 +153,7 @@ impl Rule {
         number: 16,
     };
 
-    /// Managers lead from a protocol over another one back to it.
+    /// Managers lead from a protocol over another protocol back to the first.
     pub const MANAGER_CYCLE: Rule = Rule {
         letter: b'B',
         number: 17,
@@ -179,13 +183,13 @@ impl Rule {
         number: 21,
     };
 
-    /// A parameter or return has the name of an earlier one.
+    /// A parameter or return has the name of an earlier parameter or return.
     pub const REPEATED_PARAMETER: Rule = Rule {
         letter: b'B',
         number: 22,
     };
 
-    /// A constructor or destructor is answered.
+    /// A constructor or destructor has an answer.
     pub const BAD_CONSTRUCTOR: Rule = Rule {
         letter: b'B',
         number: 23,
@@ -197,7 +201,7 @@ impl Rule {
         number: 24,
     };
 
-    /// The sync list has no section of a sync message.
+    /// The sync list has no section for a sync message.
     pub const UNLISTED_SYNC: Rule = Rule {
         letter: b'S',
         number: 1,
@@ -209,7 +213,7 @@ impl Rule {
         number: 2,
     };
 
-    /// A section names a message that is not there.
+    /// A section names a message that does not exist.
     pub const LISTED_ABSENT: Rule = Rule {
         letter: b'S',
         number: 3,
@@ -221,19 +225,19 @@ impl Rule {
         number: 4,
     };
 
-    /// A line of a script is no statement.
+    /// A line of a script is not a statement.
     pub const NOT_A_STATEMENT: Rule = Rule {
         letter: b'K',
         number: 1,
     };
 
-    /// A line does not stand where its block allows.
+    /// A line is not where its block allows it.
     pub const BLOCK_STRUCTURE: Rule = Rule {
         letter: b'K',
         number: 2,
     };
 
-    /// A statement names a message that is not there.
+    /// A statement names a message that does not exist.
     pub const UNKNOWN_MESSAGE: Rule = Rule {
         letter: b'K',
         number: 3,
@@ -245,7 +249,7 @@ impl Rule {
         number: 4,
     };
 
-    /// The values are not those of the message's types.
+    /// The values do not have the types of the message.
     pub const UNFIT_VALUES: Rule = Rule {
         letter: b'K',
         number: 5,
@@ -257,19 +261,19 @@ impl Rule {
         number: 6,
     };
 
-    /// A message that is sent or handled is not carried.
+    /// A message that is sent or handled cannot be carried.
     pub const UNCARRIED_TYPE: Rule = Rule {
         letter: b'K',
         number: 7,
     };
 
-    /// The protocol has a manager.
+    /// The protocol of a script has a manager.
     pub const NOT_A_TOP_PROTOCOL: Rule = Rule {
         letter: b'K',
         number: 8,
     };
 
-    /// The script is absent, or it or a line is too large.
+    /// The script does not exist, or it or one of its lines is too large.
     pub const UNREADABLE_SCRIPT: Rule = Rule {
         letter: b'K',
         number: 9,
@@ -281,7 +285,7 @@ impl Rule {
         number: 1,
     };
 
-    /// The type of a frame names no carried request or reply, and no goodbye.
+    /// The type of a frame is that of no carried request or reply, and not that of a goodbye.
     pub const UNKNOWN_FRAME_TYPE: Rule = Rule {
         letter: b'F',
         number: 2,
@@ -293,19 +297,19 @@ impl Rule {
         number: 3,
     };
 
-    /// The route, the number or the transaction of a frame is none that its type has.
+    /// The route, the number or the transaction of a frame is not allowed by its type.
     pub const BAD_FIELD: Rule = Rule {
         letter: b'F',
         number: 4,
     };
 
-    /// A byte that chooses among forms of a value, or the index of a union, is none.
+    /// A byte that chooses a form of a value, or the index of a union, is not one of those allowed.
     pub const BAD_TAG: Rule = Rule {
         letter: b'F',
         number: 5,
     };
 
-    /// A text is not UTF-8.
+    /// A text is not valid UTF-8.
     pub const BAD_TEXT: Rule = Rule {
         letter: b'F',
         number: 6,
@@ -317,16 +321,22 @@ impl Rule {
         number: 7,
     };
 
-    /// Bytes are left behind the last value.
+    /// Bytes are left after the last value.
     pub const LONG_PAYLOAD: Rule = Rule {
         letter: b'F',
         number: 8,
     };
 
-    /// An actor, a new id or a fault's reason is none that may stand there.
+    /// An actor, a new id or the reason of a fault is not one of those allowed there.
     pub const BAD_VALUE: Rule = Rule {
         letter: b'F',
         number: 9,
+    };
+
+    /// A packet is less than one frame, or more.
+    pub const NOT_ONE_FRAME: Rule = Rule {
+        letter: b'F',
+        number: 10,
     };
 
     /// The other side does not send this request.
@@ -365,13 +375,13 @@ impl Rule {
         number: 1,
     };
 
-    /// A line of a transcript is no step that may come there.
+    /// A line of a transcript is not a step that is possible there.
     pub const NO_SUCH_STEP: Rule = Rule {
         letter: b'C',
         number: 2,
     };
 
-    /// What the rule says of a place where it is broken; nothing where there is no such rule.
+    /// Returns the text that reports a breach of the rule, or an empty text if there is no such rule.
     pub fn text(self) -> &'static str
         ensures { result.now ≡ rule_text self }
     {
@@ -427,6 +437,7 @@ impl Rule {
             Rule::SHORT_PAYLOAD => "payload too short",
             Rule::LONG_PAYLOAD => "payload too long",
             Rule::BAD_VALUE => "bad value",
+            Rule::NOT_ONE_FRAME => "not one frame",
             Rule::UNSENT_REQUEST => "wrong direction",
             Rule::WRONG_NUMBER => "wrong number",
             Rule::WRONG_ID => "wrong id",
@@ -442,7 +453,7 @@ impl Rule {
 impl fmt::Display for Rule {
     ghost output = { λ rule. Some (rule_line rule) };
 
-    /// Writes the rule's letter and number, and behind a blank its text.
+    /// Writes the letter and the number of the rule, a blank, and its text.
     fn fmt<W: fmt::Write>(&self, f: &mut fmt::Formatter<W>) -> fmt::Result {
         let letter = char::from(self.letter);
         let number = self.number;
@@ -451,19 +462,22 @@ impl fmt::Display for Rule {
     }
 }
 
-/// A rule that is broken, and where.
+/// A broken rule with its place.
 #[derive(Clone, Copy, Debug, PartialEq, Eq, PartialOrd, Ord)]
 pub struct Finding {
+    /// Where the rule is broken.
     pub place: Place,
+    /// The rule that is broken.
     pub rule: Rule,
 }
 
 /// A list of findings.
 pub type Findings = Items<Finding>;
 
-/// A report: what is found in files, in the order of the places, each finding once, and how each file is called.
+/// A report: the findings in files, in the order of their places, each of them once, and the name of each file.
 #[derive(Drop)]
 pub struct Report {
+    /// The findings, in order.
     pub findings: Findings,
     /// The names of the files, by their numbers.
     pub names: Texts,

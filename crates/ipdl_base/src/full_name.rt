@@ -1,8 +1,9 @@
+//! Short names.
 ghost use Rattle.std.specs.Prelude.{◌≡◌};
 ghost use Rattle.ipdl_base.specs.Words.{short_name};
 
-/// The short name of what has this full name: the bytes behind its last colon, or all of them where
-/// it has none (docs/names.md).
+/// Returns the short name for this full name: the bytes after its last colon, or all of them if it has no colon
+/// (docs/names.md).
 pub fn short_name(full: &[u8]) -> &[u8]
     ensures { result.now ≡ short_name full.now }
 {

@@ -1,9 +1,10 @@
+//! Lists.
 ghost use Rattle.std.specs.Prelude.{◌≡◌, ◌==◌, List, length};
 
 use std::marker::Model;
 
-/// Values in their order; in a contract it is a list. Going from a `Vec` to it and back moves the
-/// values, so neither asks for memory.
+/// Values in their order. Contracts see a list. The conversions from a `Vec` and back move the values, so neither
+/// takes memory.
 #[derive(Debug, Drop)]
 pub struct Items<T> {
     items: Vec<T>,
@@ -16,14 +17,14 @@ impl<T> Model for Items<T> {
 }
 
 impl<T> Items<T> {
-    /// The list of a vector's elements.
+    /// Returns the list of the elements of a vector.
     pub fn from_vec(items: Vec<T>) -> Items<T>
         ensures { result ≡ items.items }
     {
         Items { items }
     }
 
-    /// The vector with the list's elements.
+    /// Returns the vector of the elements of the list.
     pub fn into_vec(self) -> Vec<T>
         ensures { result.items ≡ self }
     {
@@ -31,21 +32,21 @@ impl<T> Items<T> {
         items
     }
 
-    /// The list as a slice.
+    /// Returns the list as a slice.
     pub fn as_slice(&self) -> &[T]
         ensures { result.now ≡ self.now }
     {
         self.items.as_slice()
     }
 
-    /// The number of elements.
+    /// Returns the number of elements.
     pub fn len(&self) -> usize
         ensures { result ≡ length self.now }
     {
         self.items.len()
     }
 
-    /// Whether the list has no element.
+    /// Returns whether the list has no elements.
     pub fn is_empty(&self) -> bool
         ensures { result ≡ (length self.now == 0) }
     {
@@ -65,5 +66,5 @@ impl<T: PartialEq> PartialEq for Items<T> {
     }
 }
 
-/// A list of numbers, as those of protocols.
+/// A list of numbers, such as those of protocols.
 pub type Numbers = Items<u32>;

@@ -1,3 +1,4 @@
+//! The small enums of messages and ends.
 /// How far inside other calls a message may be sent: `not`, `inside_sync` or `inside_cpow`.
 #[derive(Clone, Copy, Debug, PartialEq, Eq)]
 pub enum Level {
@@ -20,7 +21,7 @@ pub enum Side {
     Child,
 }
 
-/// The end that receives a message; under `Both` either end may send it.
+/// The end that receives a message. Under `Both` either end may send it.
 #[derive(Clone, Copy, Debug, PartialEq, Eq)]
 pub enum Direction {
     Parent,
@@ -28,8 +29,8 @@ pub enum Direction {
     Both,
 }
 
-/// What a message that arrives does to those of its type and route that arrived before it: nothing,
-/// replace the last item, or remove the latest of them (docs/arrived.md).
+/// What an arriving message does to earlier arrivals of its type and route: nothing, replace the last arrived item, or
+/// remove the latest of them (docs/arrived.md).
 #[derive(Clone, Copy, Debug, PartialEq, Eq)]
 pub enum Compress {
     Plain,
@@ -74,7 +75,7 @@ pub enum SendRefusal {
 pub enum EndState {
     /// It sends, and packets are delivered to it.
     Open,
-    /// The end of the channel was delivered to it: it takes what has arrived, and sends nothing.
+    /// The end of the channel was delivered to it. It takes what has arrived, and sends nothing.
     Draining,
     /// It has closed.
     Closed,

@@ -1,5 +1,5 @@
-//! What every other crate speaks of: names and lists, places and rules, the outside, the tables of a
-//! program, values and messages, and the lines of a history. It knows nothing of texts, of the grammar, or of how a channel works.
+//! What all crates share: names and lists, places and rules, files and sinks, the tables of a program, values and messages,
+//! the sides of a channel, and the lines of a history. Nothing here knows of texts, of the grammar, or of how a channel works.
 #![tactic(auto)]
 
 mod builtin;
@@ -11,10 +11,10 @@ mod full_name;
 mod items;
 mod kinds;
 mod line;
-mod memory;
 mod message;
 mod name;
 mod schema;
+mod side;
 mod signature;
 mod sink;
 mod token;
@@ -31,13 +31,13 @@ pub use kinds::{
     Compress, Destroy, Direction, EndState, Level, Reason, Semantics, SendRefusal, Side,
 };
 pub use line::{Line, What, is_effect};
-pub use memory::{MemoryFiles, MemorySink};
 pub use message::{Body, Message};
 pub use name::{Name, Texts};
 pub use schema::{
     Kind, MessageRow, MessageRows, ParamRow, ParamRows, ProtocolRow, ProtocolRows, Schema, Shape,
     Shapes, TypeRow, TypeRows,
 };
+pub use side::{GOODBYE_NUMBER, TOP_ID};
 pub use signature::{params_of, returns_of, returns_of_row};
 pub use sink::{Sink, WriteAnswer};
 pub use token::{Token, TokenKind, Tokens};

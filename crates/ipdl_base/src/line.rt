@@ -1,3 +1,4 @@
+//! The lines of a history.
 ghost use Rattle.std.specs.Prelude.{◌≡◌};
 ghost use Rattle.ipdl_base.specs.Lines.{is_effect};
 
@@ -8,12 +9,14 @@ use crate::value::Values;
 /// A line of a history: what happened at one end (docs/transcripts.md).
 #[derive(Drop)]
 pub struct Line {
+    /// The end at which it happened.
     pub side: Side,
+    /// What happened.
     pub what: What,
 }
 
-/// What a line says. A message is named by the number of its request and a protocol by its own
-/// number. Requests are numbered from 1 at the parent and from -1 downward at the child.
+/// What a line reports. A message is given by the number of its request, and a protocol by its own number. Requests are
+/// numbered from 1 at the parent and from -1 downward at the child.
 #[derive(Drop)]
 pub enum What {
     /// An async send: its number, the actor that it goes to, its message and its values.
@@ -35,7 +38,7 @@ pub enum What {
     Reject(i32),
     /// The resolver of the request of this number is kept under a name.
     Keep(i32, Name),
-    /// A name holds the actor of this id, or nothing where it is 0.
+    /// A name is bound to the actor of this id, or to nothing if the id is 0.
     Let(Name, i32),
     /// The end closes.
     Close,
@@ -47,7 +50,7 @@ pub enum What {
     DeliverReply(i32),
     /// The other end's goodbye is delivered.
     DeliverGoodbye,
-    /// The mark that the other end left at its death is delivered.
+    /// The mark of the other end's death is delivered.
     DeliverBroken,
     /// A request is handled: its number, its actor, its message and its values.
     Take(i32, i32, u32, Values),
@@ -61,11 +64,11 @@ pub enum What {
     ShutAbnormal,
     /// The handler of the request of this number returns.
     Return(i32),
-    /// The call of this number goes on with these values.
+    /// The call of this number continues with these values.
     ResumeOk(i32, Values),
-    /// The call of this number goes on with a fault.
+    /// The call of this number continues with a fault.
     ResumeFault(i32, Reason),
-    /// So many packets leave the outbox.
+    /// This number of packets leaves the outbox.
     Flush(u32),
     /// An effect: an actor of this id and protocol is built.
     Built(i32, u32),
@@ -85,7 +88,7 @@ pub enum What {
     Fall(i32, Destroy),
 }
 
-/// Whether a line is an effect of the event before it.
+/// Returns whether a line is an effect of the event before it.
 pub fn is_effect(what: &What) -> bool
     ensures { result ≡ is_effect what.now }
 {

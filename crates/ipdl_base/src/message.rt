@@ -1,3 +1,4 @@
+//! Messages.
 ghost use Rattle.std.specs.Prelude.{◌≡◌, ◌↔◌, IfOk, IsTrue};
 ghost use Rattle.ipdl_base.specs.Plain.{plain_body, plain_message};
 
@@ -5,32 +6,38 @@ use crate::kinds::Reason;
 use crate::value::Values;
 use std::alloc::{AllocError, Global};
 
-/// What one end sends to the other, but for the mark that an end has died.
+/// A message that one end sends to the other. The mark that an end has died is not a message.
 #[derive(Debug, Drop)]
 pub struct Message {
-    /// The id of the actor that it is sent to.
+    /// The id of the actor to which the message is sent.
     pub route: i32,
     /// The number of its type: that of a request or a reply in the schema.
     pub number: u32,
     /// The number of the request, positive from the parent and negative from the child.
     pub seq: i32,
+    /// The transaction of a sync message, or 0.
     pub transaction: i32,
-    /// The id of the actor that a constructor makes, else 0.
+    /// The id of the actor that a constructor makes, or 0.
     pub made: i32,
+    /// What the message carries.
     pub body: Body,
 }
 
 /// What a message carries.
 #[derive(Debug, Drop)]
 pub enum Body {
+    /// A request with its parameters.
     Request(Values),
+    /// A reply with its returns.
     Reply(Values),
+    /// A reply that reports why the request failed.
     Fault(Reason),
+    /// The last message of an end that closes.
     Goodbye,
 }
 
 impl Message {
-    /// The same message, up to where its boxes lie. The only error is want of memory.
+    /// Returns a copy, which is the same up to where its boxes lie. Fails only if memory runs out.
     pub fn copy(&self, alloc: Global) -> Result<Message, AllocError>
         ensures { IfOk result (λ copied. plain_message copied ≡ plain_message self.now) }
     {
@@ -44,7 +51,7 @@ impl Message {
         })
     }
 
-    /// Whether both are the same message, up to where their boxes lie.
+    /// Returns whether both are the same message, up to where their boxes lie.
     pub fn same(&self, other: &Message) -> bool
         ensures { IsTrue result ↔ (plain_message self.now ≡ plain_message other.now) }
     {
@@ -58,7 +65,7 @@ impl Message {
 }
 
 impl Body {
-    /// The same body, up to where its boxes lie. The only error is want of memory.
+    /// Returns a copy, which is the same up to where its boxes lie. Fails only if memory runs out.
     pub fn copy(&self, alloc: Global) -> Result<Body, AllocError>
         ensures { IfOk result (λ copied. plain_body copied ≡ plain_body self.now) }
     {
@@ -70,7 +77,7 @@ impl Body {
         }
     }
 
-    /// Whether both are the same body, up to where their boxes lie.
+    /// Returns whether both are the same body, up to where their boxes lie.
     pub fn same(&self, other: &Body) -> bool
         ensures { IsTrue result ↔ (plain_body self.now ≡ plain_body other.now) }
     {

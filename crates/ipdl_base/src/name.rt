@@ -1,3 +1,4 @@
+//! Names.
 ghost use Rattle.std.specs.Prelude.{◌≡◌, ◌==◌, ◌+◌, ◌<◌, ◌≤◌, ◌++◌, [], length, IfOk, IsOk, OnErr, OnOk};
 
 use crate::items::Items;
@@ -6,7 +7,7 @@ use std::fmt;
 use std::hash::{Hash, Hasher};
 use std::marker::Model;
 
-/// The most bytes that a name holds in itself.
+/// The most bytes that are stored in the name itself.
 const ROOM: usize = 22;
 
 /// Where the bytes of a name are.
@@ -18,8 +19,8 @@ enum NameBytes {
     Long(Box<Vec<u8>>),
 }
 
-/// A word, a quoted text, a name of a file or any other bytes; in a contract it is the list of its
-/// bytes. Up to 22 bytes take no memory.
+/// A word, a quoted text, the name of a file or any other bytes. Contracts see the list of the bytes. Up to 22 bytes take
+/// no memory.
 pub struct Name {
     held: NameBytes,
 }
@@ -36,7 +37,7 @@ impl Model for Name {
     ghost invariant = { λ name. FitsRoom name.held };
 }
 
-// Not derived, since a derived one is a test of where the bytes are at each place where a name is let go.
+// Not derived: a derived `Drop` tests where the bytes are at each place where a name is dropped.
 impl Drop for Name {
     fn drop(self) {
         let Name { held: _held } = self;
@@ -46,7 +47,7 @@ impl Drop for Name {
 /// A list of names.
 pub type Texts = Items<Name>;
 
-/// These bytes in the name itself.
+/// Returns a name with these bytes in the name itself.
 fn short(bytes: &[u8]) -> Name
     requires { length bytes.now ≤ 22 }
     ensures { result ≡ bytes.now }
@@ -61,7 +62,7 @@ fn short(bytes: &[u8]) -> Name
     }
 }
 
-/// The bytes of one text and then those of another, in the name itself.
+/// Returns a name with the bytes of one text and then those of another, in the name itself.
 fn short_of_two(first: &[u8], second: &[u8]) -> Name
     requires { length first.now + length second.now ≤ 22 }
     ensures { result ≡ first.now ++ second.now }
@@ -78,7 +79,7 @@ fn short_of_two(first: &[u8], second: &[u8]) -> Name
     }
 }
 
-/// The bytes of a vector, which stay where they are.
+/// Returns a name with the bytes of a vector, which are not moved. Fails only if memory runs out.
 fn long(alloc: Global, bytes: Vec<u8>) -> Result<Name, AllocError>
     requires { 22 < length bytes.items }
     ensures { IfOk result (λ name. name ≡ bytes.items) }
@@ -88,7 +89,7 @@ fn long(alloc: Global, bytes: Vec<u8>) -> Result<Name, AllocError>
     })
 }
 
-/// A name of the bytes of one text and then those of another.
+/// Returns a name with the bytes of one text and then those of another. Fails only if memory runs out.
 fn joined(alloc: Global, first: &[u8], second: &[u8]) -> Result<Name, AllocError>
     requires { length first.now ≤ 22 }
     ensures ok { IfOk result (λ name. name ≡ first.now ++ second.now) }
@@ -103,14 +104,14 @@ fn joined(alloc: Global, first: &[u8], second: &[u8]) -> Result<Name, AllocError
 }
 
 impl Name {
-    /// The name without bytes.
+    /// Returns the name without bytes.
     pub fn empty() -> Name
         ensures { result ≡ [] }
     {
         short(&[])
     }
 
-    /// A name of these bytes.
+    /// Returns a name with these bytes. Fails only if memory runs out.
     pub fn from_slice(alloc: Global, bytes: &[u8]) -> Result<Name, AllocError>
         ensures ok { IfOk result (λ name. name ≡ bytes.now) }
         ensures succeeds { length bytes.now ≤ 22 → IsOk result }
@@ -122,7 +123,7 @@ impl Name {
         }
     }
 
-    /// A name of a vector's bytes.
+    /// Returns a name with the bytes of a vector. Fails only if memory runs out.
     pub fn from_vec(alloc: Global, bytes: Vec<u8>) -> Result<Name, AllocError>
         ensures ok { IfOk result (λ name. name ≡ bytes.items) }
         ensures succeeds { length bytes.items ≤ 22 → IsOk result }
@@ -134,7 +135,7 @@ impl Name {
         }
     }
 
-    /// The bytes.
+    /// Returns the bytes.
     pub fn as_slice(&self) -> &[u8]
         ensures { result.now ≡ self.now }
     {
@@ -144,21 +145,21 @@ impl Name {
         }
     }
 
-    /// The number of bytes.
+    /// Returns the number of bytes.
     pub fn len(&self) -> usize
         ensures { result ≡ length self.now }
     {
         self.as_slice().len()
     }
 
-    /// Whether there is no byte.
+    /// Returns whether the name has no bytes.
     pub fn is_empty(&self) -> bool
         ensures { result ≡ (length self.now == 0) }
     {
         self.len() == 0
     }
 
-    /// A name with the same bytes.
+    /// Returns a name with the same bytes. Fails only if memory runs out.
     pub fn copy(&self, alloc: Global) -> Result<Name, AllocError>
         ensures ok { IfOk result (λ name. name ≡ self.now) }
         ensures succeeds { length self.now ≤ 22 → IsOk result }
@@ -174,7 +175,7 @@ impl Name {
         }
     }
 
-    /// Puts bytes behind those of the name; where memory runs out, it stays as it is.
+    /// Appends bytes. Fails only if memory runs out, and then the name is unchanged.
     pub fn append(&mut self, alloc: Global, more: &[u8]) -> Result<(), AllocError>
         ensures ok { OnOk result (self.new ≡ self.old ++ more.now) }
         ensures err { OnErr result (self.new ≡ self.old) }

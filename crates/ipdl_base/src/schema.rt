@@ -1,3 +1,4 @@
+//! The tables of a program: its protocols, messages and types.
 ghost use Rattle.std.specs.Prelude.{◌≡◌, ◌↔◌, slice_get, option_map, IfOk, IsTrue};
 ghost use Rattle.ipdl_base.specs.Plain.{plain_shape};
 
@@ -10,7 +11,9 @@ use std::alloc::{AllocError, Global};
 /// The protocols and types of a program, by number.
 #[derive(Drop)]
 pub struct Schema {
+    /// The protocols.
     pub protocols: ProtocolRows,
+    /// The structs and unions.
     pub types: TypeRows,
 }
 
@@ -19,30 +22,40 @@ pub struct Schema {
 pub struct ProtocolRow {
     /// The full name, with its namespaces.
     pub name: Name,
+    /// The semantics of the protocol.
     pub semantics: Semantics,
+    /// The level of the protocol.
     pub level: Level,
     /// The numbers of its managers, in text order.
     pub managers: Numbers,
     /// The numbers of the protocols that it manages, in text order.
     pub manages: Numbers,
+    /// Its messages.
     pub messages: MessageRows,
 }
 
 /// A message of a protocol.
 #[derive(Drop)]
 pub struct MessageRow {
-    /// The number of its request; that of its reply is the next.
+    /// The number of its request. The number of its reply is the next one.
     pub number: u32,
+    /// The name.
     pub name: Name,
+    /// The end that receives it.
     pub direction: Direction,
+    /// Whether its sender waits for the reply.
     pub semantics: Semantics,
+    /// How far inside other calls it may be sent.
     pub level: Level,
+    /// What it does to earlier arrivals.
     pub compress: Compress,
+    /// What it does beside being handled.
     pub kind: Kind,
+    /// The parameters.
     pub params: ParamRows,
+    /// The returns, if it has any.
     pub returns: Option<ParamRows>,
-    /// Whether a channel can carry it: no type of its parameters and returns mentions one that is
-    /// not carried.
+    /// Whether a channel can carry it: no type of its parameters and returns mentions one that is not carried.
     pub carried: bool,
     /// Whether it may wait in its sender's outbox.
     pub lazy: bool,
@@ -51,22 +64,25 @@ pub struct MessageRow {
 /// What a message does beside being handled.
 #[derive(Clone, Copy, Debug, PartialEq, Eq)]
 pub enum Kind {
+    /// Nothing.
     Normal,
     /// It makes an actor of the protocol with this number.
     Constructor(u32),
-    /// It lets its actor fall.
+    /// Its actor falls.
     Delete,
 }
 
 /// A parameter, a return or a field.
 #[derive(Drop)]
 pub struct ParamRow {
+    /// The name.
     pub name: Name,
+    /// The type.
     pub shape: Shape,
 }
 
-/// A type. The number of `Actor` and `Endpoint` is that of a protocol, with whether it is nullable
-/// or managed; that of `Named` is an index in the schema's types.
+/// A type. `Actor` and `Endpoint` have the number of a protocol and whether it is nullable or managed. `Named` has an
+/// index in the types of the schema.
 #[derive(Drop)]
 pub enum Shape {
     Builtin(Builtin),
@@ -80,7 +96,7 @@ pub enum Shape {
 }
 
 impl Shape {
-    /// The same type, up to where its boxes lie. The only error is want of memory.
+    /// Returns a copy, which is the same up to where its boxes lie. Fails only if memory runs out.
     pub fn copy(&self, alloc: Global) -> Result<Shape, AllocError>
         ensures { IfOk result (λ copied. plain_shape copied ≡ plain_shape self.now) }
     {
@@ -96,7 +112,7 @@ impl Shape {
         }
     }
 
-    /// Whether both are the same type, up to where their boxes lie.
+    /// Returns whether both are the same type, up to where their boxes lie.
     pub fn same(&self, other: &Shape) -> bool
         ensures { IsTrue result ↔ (plain_shape self.now ≡ plain_shape other.now) }
     {
@@ -139,7 +155,7 @@ pub type Shapes = Items<Shape>;
 impl Schema {
     ghost use Rattle.ipdl_base.specs.Sound.{IsSound, message_of};
 
-    /// The protocol with this number, or nothing where the number is not below the count.
+    /// Returns the protocol with this number, or `None` if the number is not below the count.
     pub fn protocol(&self, number: u32) -> Option<&ProtocolRow>
         requires { IsSound self.now }
         ensures { option_map (λ row. row.now) result ≡ slice_get self.now.protocols number }
@@ -147,7 +163,7 @@ impl Schema {
         self.protocols.as_slice().get(number as usize)
     }
 
-    /// The message whose request or reply has this number, or nothing where there is none.
+    /// Returns the message whose request or reply has this number, or `None`.
     pub fn message(&self, number: u32) -> Option<&MessageRow>
         requires { IsSound self.now }
         ensures { option_map (λ row. row.now) result ≡ message_of self.now number }
@@ -168,7 +184,7 @@ impl Schema {
 impl MessageRow {
     ghost use Rattle.ipdl_base.specs.Sound.{has_reply};
 
-    /// Whether the message is answered by a reply: it is sync, or it has returns.
+    /// Returns whether the message is answered by a reply: it is sync, or it has returns.
     pub fn has_reply(&self) -> bool
         ensures { result ≡ has_reply self.now }
     {

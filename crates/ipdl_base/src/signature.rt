@@ -1,11 +1,12 @@
+//! The parameters and returns of messages.
 ghost use Rattle.std.specs.Prelude.{◌≡◌};
 ghost use Rattle.ipdl_base.specs.Sound.{IsSound};
 ghost use Rattle.ipdl_base.specs.Signatures as signatures;
 
 use crate::schema::{MessageRow, ParamRow, Schema};
 
-/// The parameters of the message whose request or reply has this number, or none where there is no
-/// such message. Takes no memory.
+/// Returns the parameters of the message whose request or reply has this number, or an empty slice if there is no such
+/// message.
 pub fn params_of(schema: &Schema, number: u32) -> &[ParamRow]
     requires { IsSound schema.now }
     ensures { result.now ≡ signatures.params_of schema.now number }
@@ -16,7 +17,7 @@ pub fn params_of(schema: &Schema, number: u32) -> &[ParamRow]
     }
 }
 
-/// The returns of a message, or none where it has none. Takes no memory.
+/// Returns the returns of a message, or an empty slice if it has none.
 pub fn returns_of_row(message: &MessageRow) -> &[ParamRow]
     ensures { result.now ≡ signatures.returns_of_row message.now }
 {
@@ -26,8 +27,8 @@ pub fn returns_of_row(message: &MessageRow) -> &[ParamRow]
     }
 }
 
-/// The returns of the message whose request or reply has this number, or none where it has none or
-/// there is no such message. Takes no memory.
+/// Returns the returns of the message whose request or reply has this number, or an empty slice if it has none or there is
+/// no such message.
 pub fn returns_of(schema: &Schema, number: u32) -> &[ParamRow]
     requires { IsSound schema.now }
     ensures { result.now ≡ signatures.returns_of schema.now number }

@@ -1,11 +1,12 @@
+//! Sinks: where bytes are written.
 ghost use Rattle.std.specs.Prelude.{◌≡◌, ℕ, ◌≤◌, List, Option};
 
-/// What a write does.
+/// The result of a write.
 #[derive(Clone, Copy, Debug, PartialEq, Eq)]
 pub enum WriteAnswer {
-    /// It took this many of the first bytes of the piece.
+    /// The write took this number of the first bytes of the piece.
     Took(usize),
-    /// It failed, and took nothing.
+    /// The write failed, and took nothing.
     Failed,
 }
 
@@ -13,13 +14,13 @@ pub enum WriteAnswer {
 pub trait Sink {
     ghost use Rattle.ipdl_base.specs.Outside.{Rose, Appends, TakesSome, taken};
 
-    /// The bytes written so far, where they are told.
+    /// The bytes written so far, if they are known.
     ghost written: { Self → Option (List ℕ) };
 
-    /// How many writes have failed.
+    /// The number of writes that have failed.
     ghost faults: { Self → ℕ };
 
-    /// Writes a front of the piece, and says how long that front is.
+    /// Writes a prefix of the piece, and returns the length of the prefix, or that the write failed.
     fn write(&mut self, piece: &[u8]) -> WriteAnswer
         ensures count { faults self.old ≤ faults self.new }
         ensures failed { result ≡ WriteAnswer.Failed → Rose (faults self.old) (faults self.new) }

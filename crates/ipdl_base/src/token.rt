@@ -1,3 +1,4 @@
+//! Tokens.
 ghost use Rattle.std.specs.Prelude.{◌≡◌};
 
 use crate::finding::Place;
@@ -13,11 +14,11 @@ pub enum TokenKind {
     Reserved,
     /// A quoted text.
     Quoted,
-    /// One of the marks, as `::` or `{`.
+    /// One of the marks, such as `::` or `{`.
     Mark,
 }
 
-/// A token of a text, whose bytes it borrows. Contracts see its text as a list of bytes.
+/// A token of a text, from which it borrows its bytes. Contracts see them as a list.
 #[derive(Debug, Drop)]
 pub struct Token<'t> {
     text: &'t [u8],
@@ -34,7 +35,7 @@ impl<'t> Model for Token<'t> {
 }
 
 impl<'t> Token<'t> {
-    /// The token of this kind with these bytes at this place.
+    /// Creates the token of this kind with these bytes at this place.
     pub fn new(kind: TokenKind, text: &'t [u8], place: Place) -> Token<'t>
         ensures kind { result.kind ≡ kind }
         ensures text { result.text ≡ text.now }
@@ -43,21 +44,21 @@ impl<'t> Token<'t> {
         Token { text, place, kind }
     }
 
-    /// What the token is.
+    /// Returns the kind of the token.
     pub fn kind(&self) -> TokenKind
         ensures { result ≡ self.now.kind }
     {
         self.kind
     }
 
-    /// The token's bytes as they stand in the text, a quoted text's quotes among them.
+    /// Returns the bytes of the token as they are in the text, including the quotes of a quoted text.
     pub fn text(&self) -> &'t [u8]
         ensures { result.now ≡ self.now.text }
     {
         self.text
     }
 
-    /// The place of its first byte.
+    /// Returns the place of the first byte.
     pub fn place(&self) -> Place
         ensures { result ≡ self.now.place }
     {

@@ -1,3 +1,4 @@
+//! Values.
 ghost use Rattle.std.specs.Prelude.{◌≡◌, ◌↔◌, IfOk, IsTrue};
 ghost use Rattle.ipdl_base.specs.Plain.{plain, plain_values};
 
@@ -8,35 +9,40 @@ use std::alloc::{AllocError, Global};
 #[cycle(value)]
 #[derive(Debug, Drop)]
 pub enum Value {
+    /// A `bool`.
     Bool(bool),
     /// A whole number, in the range of its type.
     Int(i128),
     /// Text, in UTF-8.
     Text(Name),
+    /// Bytes.
     Bytes(Name),
     /// The bits of a float or a double.
     Bits(u64),
-    /// A struct, by its fields.
+    /// A struct, as the values of its fields.
     Struct(Values),
-    /// A union, by the index of its component.
+    /// A union, as the index of a component and a value of its type.
     Union(u32, Box<Value>),
+    /// An array, as its elements.
     Array(Values),
     /// A maybe or a `UniquePtr`.
     Maybe(Option<Box<Value>>),
-    /// An actor, by its id; 0 is null.
+    /// An actor, as its id. The id 0 is null.
     Actor(i32),
 }
 
-/// A list of values: nothing, or a first one and the rest.
+/// A list of values.
 #[cycle(value)]
 #[derive(Debug, Drop)]
 pub enum Values {
+    /// No values.
     Nothing,
+    /// A first value and the rest.
     First(Box<Value>, Box<Values>),
 }
 
 impl Value {
-    /// The same value, up to where its boxes lie. The only error is want of memory.
+    /// Returns a copy, which is the same up to where its boxes lie. Fails only if memory runs out.
     #[cycle(copy)]
     pub fn copy(&self, alloc: Global) -> Result<Value, AllocError>
         ensures { IfOk result (λ copied. plain copied ≡ plain self.now) }
@@ -61,7 +67,7 @@ impl Value {
         }
     }
 
-    /// Whether both are the same value, up to where their boxes lie.
+    /// Returns whether both are the same value, up to where their boxes lie.
     #[cycle(same)]
     pub fn same(&self, other: &Value) -> bool
         ensures { IsTrue result ↔ (plain self.now ≡ plain other.now) }
@@ -84,7 +90,7 @@ impl Value {
 }
 
 impl Values {
-    /// The same values, up to where their boxes lie. The only error is want of memory.
+    /// Returns a copy, which is the same up to where its boxes lie. Fails only if memory runs out.
     #[cycle(copy)]
     pub fn copy(&self, alloc: Global) -> Result<Values, AllocError>
         ensures { IfOk result (λ copied. plain_values copied ≡ plain_values self.now) }
@@ -98,7 +104,7 @@ impl Values {
         }
     }
 
-    /// Whether both are the same values, up to where their boxes lie.
+    /// Returns whether both are the same values, up to where their boxes lie.
     #[cycle(same)]
     pub fn same(&self, other: &Values) -> bool
         ensures { IsTrue result ↔ (plain_values self.now ≡ plain_values other.now) }

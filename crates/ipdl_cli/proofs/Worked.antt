@@ -1,4 +1,4 @@
--- A process whose words are no command.
+-- A process whose words are not a command.
 use Rattle.std.proofs.Common.{◌≡◌, ◌⊎◌, ℕ, List, [], refl, sym, ◌∙◌, ap, inl, inr}
 use Rattle.std.specs.Prelude.{None}
 use Rattle.std.proofs.lemmas.Option.{same_Some}
@@ -14,7 +14,7 @@ use Rattle.world_core.specs.Relaying.{IsRelayed}
 use Rattle.ipdl_cli.specs.Ending.{AnswersByReads, IsAnswerTo, Process, only_written}
 use Rattle.ipdl_cli.proofs.Statuses.{usage_alone}
 
--- it may read nothing, end with 2, and write the usage text to standard error alone
+-- it may read nothing, end with 2, and write the usage text to standard error only
 pub may_say_usage : (words : List (List ℕ)) → IsNoCommand words → AnswersByReads (record { words = words; reads = []; code = 2; out = []; err = usage_text })
 may_say_usage words none = record {
   status = Usage;
@@ -30,7 +30,7 @@ may_say_usage words none = record {
   ends = refl;
 }
 
--- where it ends with 2, it wrote the usage text to standard error, and nothing to standard output
+-- if it ends with 2, it wrote the usage text to standard error, and nothing to standard output
 pub says_usage : (process : Process) → IsNoCommand process.words → AnswersByReads process → process.code ≡ 2 → (process.out ≡ []) × (process.err ≡ usage_text)
 says_usage process none answers two =
     let usage : answers.status ≡ Usage = usage_alone answers.status (sym answers.ends ∙ two) in

@@ -17,23 +17,23 @@ use Rattle.world_core.specs.Relaying.{IsRelayed}
 abbrev pub IsCode : ℕ → Type 0
 IsCode code = (status : Status) × (code ≡ code_of status)
 
--- The process ends with the number of a status, and a call that has such an answer may come to that status with what was
+-- The process ends with the number of a status. A call with such an answer may end with that status and with what was
 -- written.
 pub record EndsWith (IsIt : CommandAnswer → Type 0) (code : ℕ) (out err : Writing) : Type 0 where
   pub status : Status
   pub outcome : IsOutcome IsIt status out err
   pub ends : code ≡ code_of status
 
--- The process ends with the number of a status, and a call that has such answers to what it sees of the files may come to that
--- status by what its reads gave, with what was written.
+-- The process ends with the number of a status. A call that has such answers to what it sees of the files may end with that
+-- status, by what its reads gave, and with what was written.
 pub record EndsByReads (told : Option FileMap) (old new : List ReadEntry) (IsIt : FileViews → CommandAnswer → Type 0) (code : ℕ) (out err : Writing) : Type 0 where
   pub status : Status
   pub outcome : IsOutcomeOfReads told old new IsIt status out err
   pub reads : IsStatusOfReads status old new
   pub ends : code ≡ code_of status
 
--- What a process has from outside and leaves there: its words, what its reads gave, its exit code, and the bytes that its
--- writes to standard output and to standard error took.
+-- What a process gets from outside and leaves there: its words, what its reads gave, its exit code, and the bytes that it
+-- wrote to standard output and to standard error.
 pub record Process : Type 0 where
   pub words : List (List ℕ)
   pub reads : List ReadEntry
@@ -41,17 +41,17 @@ pub record Process : Type 0 where
   pub out : List ℕ
   pub err : List ℕ
 
--- these bytes were written, and none before them
+-- these bytes were written, and nothing before them
 abbrev pub only_written : List ℕ → Writing
 only_written bytes = record { old = Some []; new = Some bytes }
 
--- an answer to these words, whose runs are those of two threads, and whose relays are those of two queues
+-- an answer to these words, where runs are those of two threads and relays are those of two queues
 abbrev pub IsAnswerTo : List (List ℕ) → FileViews → CommandAnswer → Type 0
 IsAnswerTo words seen answer = IsAnswer RunsAtOnce (λ before. IsRelayed before.setting) seen words answer
 
--- The process answers its words by what its reads gave: for all views of the files that agree with them, the exit code is
--- that of the answer, of which all was written, or a write failed after a prefix of it; or the last read failed, or memory
--- ran out, and nothing was written.
+-- The process answers its words by what its reads gave. For all views of the files that agree with them, the exit code is
+-- that of the answer, and all of the answer was written, or a write failed after a prefix of it. Or the last read failed,
+-- or memory ran out, and nothing was written.
 pub record AnswersByReads (process : Process) : Type 0 where
   pub status : Status
   pub outcome : IsOutcomeOfReads None [] process.reads (IsAnswerTo process.words) status (only_written process.out) (only_written process.err)

@@ -1,4 +1,5 @@
 //! The call of the library, and the number with which the process ends.
+
 ghost use Rattle.std.specs.Prelude.{◌≡◌, ◌⊎◌, ℕ, drop, map, string_bytes};
 ghost use Rattle.std.specs.Process.{exit_status};
 ghost use Rattle.ipdl_base.specs.Outside.{Rose};
@@ -17,7 +18,7 @@ use std::alloc::Global;
 use std::process::ExitCode;
 use world_core::{Driver, Relay};
 
-/// Gives the words after the first, which is the program's name.
+/// Returns the words after the first, which is the program's name.
 pub fn words_after_name(all: &[String]) -> &[String]
     ensures { result.now ≡ drop 1 all.now }
 {
@@ -27,8 +28,8 @@ pub fn words_after_name(all: &[String]) -> &[String]
     }
 }
 
-/// Calls the program on these words, files and sinks, and gives the number of its status as the exit code of the process
-/// (docs/formats.md, "Statuses").
+/// Calls the program on these words, files and sinks, and returns the number of its status as the exit
+/// code of the process (docs/formats.md, "Statuses").
 pub fn exit_code_of<F: Files, O: Sink, E: Sink, D: Driver, Q: Relay>(
     alloc: Global,
     words: &[String],
@@ -40,11 +41,11 @@ pub fn exit_code_of<F: Files, O: Sink, E: Sink, D: Driver, Q: Relay>(
 ) -> ExitCode
     requires ready { D.ready driver.old }
     requires relay_ready { Q.ready relay.old }
-    ensures answer { ForMap (F.told (files_of files.old)) (λ map'. EndsWith
+    ensures answer { ForMap (F.known (files_of files.old)) (λ map'. EndsWith
         (IsAnswer (D.Gives driver.old) (Q.Gives relay.old) map' (map string_bytes words.now)) (exit_status result)
         (record { old = O.written out.old; new = O.written out.new })
         (record { old = E.written err.old; new = E.written err.new })) }
-    ensures reads { EndsByReads (F.told (files_of files.old)) (reads_of files.old) (reads_of files.new)
+    ensures reads { EndsByReads (F.known (files_of files.old)) (reads_of files.old) (reads_of files.new)
         (λ seen. IsAnswer (D.Gives driver.old) (Q.Gives relay.old) seen (map string_bytes words.now)) (exit_status result)
         (record { old = O.written out.old; new = O.written out.new })
         (record { old = E.written err.old; new = E.written err.new }) }

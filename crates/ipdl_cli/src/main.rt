@@ -28,23 +28,24 @@ use std::sync::Wait;
 use std::thread::Threads;
 use thread_link::{Gate, TwoThreads};
 
-/// Gives the words of the process, of which the first is the program's name.
+/// Returns the words of the process. The first of them is the program's name.
 ///
 /// # Errors
 ///
-/// `AllocError` where memory ran out.
+/// `AllocError` if memory runs out.
 fn process_words<R: Env + AllocGlobal>(rt: &R) -> Result<Vec<String>, AllocError> {
     match env::args(rt) {
         Ok(all) => all.collect(rt.alloc()),
-        // A word that is no text is no word of a command, so the call is one without words.
+        // A word that is not valid text is not a word of any command, so this becomes a call without
+        // words.
         Err(error) if error.kind() == ErrorKind::InvalidData => Ok(Vec::new(rt.alloc())),
-        // The words can fail in no other way than for lack of memory.
+        // Otherwise the words fail only if memory runs out.
         Err(_) => Err(AllocError),
     }
 }
 
-/// Runs the program on the words of a process after its name, with files and streams that were not used yet, and gives the
-/// exit code that the process ends with (docs/theorems.md, "The outside").
+/// Runs the program on the words of a process after its name, with files and streams that have not been
+/// used yet. Returns the exit code that the process ends with (docs/theorems.md, "The outside").
 fn run<'r, R: Files + Threads + Wait + Sync + AllocGlobal, O: Write, E: Write>(
     rt: &'r R,
     all: &[String],
@@ -77,7 +78,7 @@ fn run<'r, R: Files + Threads + Wait + Sync + AllocGlobal, O: Write, E: Write>(
     exit_code_of(rt.alloc(), words, files, out, err, &mut driver, &mut relay)
 }
 
-/// Takes the words of the process, its files and these two streams of it, and runs the program on them.
+/// Runs the program on the words of the process, its files and its two streams.
 fn run_process<
     R: Files + Env + Threads + Wait + Sync + AllocGlobal,
     O: Write + Drop,

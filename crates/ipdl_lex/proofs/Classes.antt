@@ -1,4 +1,4 @@
--- What the first byte of a piece says of it.
+-- What the first byte of a piece means for it.
 use Rattle.std.proofs.Common.{◌≡◌, ℕ, Bool, true, false, ◌&&◌, ◌==◌, ◌⊎◌, List, [], ◌∷◌, ◌++◌, Option, Some, None, Contains, cond, not, refl, subst, sym, ap, ◌∙◌, ⊎_elim}
 use Rattle.std.specs.Prelude.{codes, IsTrue}
 use Rattle.std.specs.List.{list_any, list_all, AllByRecursion}
@@ -13,7 +13,7 @@ use Rattle.ipdl_lex.specs.declared.scan.PieceClass.TheVariants as class
 use Rattle.ipdl_lex.specs.Pieces.{is_blank, is_mark, reserved_words, IsQuoted, IsMark, IsLineComment, IsBlockComment, IsPieceOf}
 use Rattle.ipdl_lex.specs.Scan.{class_of}
 
--- what holds of each byte of a list holds of one that the test finds among them
+-- a property of each byte of a list holds of a byte that the test finds among them
 each_in : (P : ℕ → Type 0) (cs : List ℕ) → AllByRecursion P cs → (b : ℕ) → list_any (λ c. c == b) cs ≡ true → P b
 each_in P [] all b h = absurd (false≢true h)
 each_in P (c ∷ cs) all b h =
@@ -119,7 +119,7 @@ is_mark-class b h = from_mark (is_blank b) (b == 47) (b == 34) (is_mark b) (is_w
 pub word_start-class : (b : ℕ) → class_of b ≡ class.Letter → is_word_start b ≡ true
 word_start-class b h = from_letter (is_blank b) (b == 47) (b == 34) (is_mark b) (is_word_start b) h
 
--- a word begins with a letter, and goes on with letters and digits
+-- a word begins with a letter, and continues with letters and digits
 
 pub word_first : (b : ℕ) (bytes : List ℕ) → IsWord (b ∷ bytes) → is_word_start b ≡ true
 word_first b bytes h = (and_parts (is_word_start b) (list_all is_word_byte bytes) h).0
@@ -136,7 +136,7 @@ word_of b bytes start rest =
 pub IsWord-from_reserved : (bytes : List ℕ) → Contains reserved_words bytes → IsWord bytes
 IsWord-from_reserved bytes h = All-contains IsWord reserved_words bytes (AllPass-from_list_all is_word reserved_words refl) h
 
--- which class the first byte of a piece of each kind has
+-- the class of the first byte of a piece of each kind
 
 abbrev allows : Option TokenKind → PieceClass → Bool
 allows None class.Blank = true
@@ -178,7 +178,7 @@ kind_allows (Some Reserved) b bs h = ap (allows (Some Reserved)) (class_of-lette
 kind_allows (Some Quoted) b bs h = allows_at (Some Quoted) b 34 bs (h.inner ++ 34 ∷ []) h.spelled refl
 kind_allows (Some Mark) b bs h = mark_allows b bs h
 
--- a piece of a kind that the class of its first byte does not allow is none
+-- there is no piece of a kind that the class of its first byte does not allow
 disallowed : (k : Option TokenKind) (b : ℕ) (bs : List ℕ) (c : PieceClass) → class_of b ≡ c → allows k c ≡ false → IsPieceOf k (b ∷ bs) → ⊥
 disallowed k b bs c e refused h = false≢true (sym refused ∙ ap (allows k) (sym e) ∙ kind_allows k b bs h)
 

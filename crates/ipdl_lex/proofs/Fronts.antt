@@ -1,4 +1,4 @@
--- Which piece begins a text, and where none does.
+-- Which piece begins a text, and where no piece does.
 use Rattle.std.proofs.Common.{◌≡◌, ◌≢◌, ℕ, ◌+◌, ◌<◌, ◌≤◌, true, false, not, ◌==◌, List, [], ◌∷◌, ◌++◌, Option, Some, None, length, take, drop, get_or, is_some, unwrap_or, position, refl, subst, sym, ap, ◌∙◌, ⊎_elim, inl, inr, arith}
 use Rattle.std.specs.Prelude.{IsTrue, All}
 use Rattle.std.specs.List.{AllByRecursion}
@@ -20,7 +20,7 @@ all_weaker : (P Q : ℕ → Type 0) → ((x : ℕ) → P x → Q x) → (xs : Li
 all_weaker P Q f [] h = tt
 all_weaker P Q f (x ∷ xs) h = (f x h.0, all_weaker P Q f xs h.1)
 
--- a longer front of a list has the shorter one in front, and goes on into the rest
+-- a longer prefix of a list begins with the shorter one, and continues into the rest
 pub record GoesOn (front rest more after : List ℕ) : Type 0 where
   pub next : ℕ
   pub tail : List ℕ
@@ -37,7 +37,7 @@ goes_on (x ∷ xs) rest (y ∷ ys) after e h =
     let more_is = g.more_is in
     record { next = g.next; tail = g.tail; more_is = cc; rest_is = g.rest_is }
 
--- a piece begins a text if no piece goes on into the rest
+-- a piece begins a text if no piece continues into the rest
 begins_by : (k : Option TokenKind) (bytes rest : List ℕ) → IsPieceOf k bytes
     → ((l : Option TokenKind) (next : ℕ) (tail after : List ℕ) → IsPieceOf l (bytes ++ next ∷ tail) → rest ≡ next ∷ (tail ++ after) → ⊥)
     → Begins (bytes ++ rest) (record { kind = k; bytes = bytes }) rest
@@ -53,21 +53,21 @@ begins_by k bytes rest piece none = record {
       (cases_lt (length bytes) (length other.bytes));
 }
 
--- what `IsFront` says, at bytes written out
+-- `IsFront` of bytes that are written out
 front_of : (text bytes rest : List ℕ) (k : Option TokenKind) (n : ℕ) → text ≡ bytes ++ rest → length bytes ≡ n → Begins (bytes ++ rest) (record { kind = k; bytes = bytes }) rest → IsFront text k n
 front_of text bytes rest k n e len begins =
     let front : take n text ≡ bytes = ap (take n) e ∙ take_at bytes rest n len in
-    let behind : drop n text ≡ rest = ap (drop n) e ∙ drop_at bytes rest n len in
+    let following : drop n text ≡ rest = ap (drop n) e ∙ drop_at bytes rest n len in
     let lengths = ap length e ∙ length-append bytes rest in
     record {
       fits = omega arith;
       begins =
           subst (λ t. Begins t (record { kind = k; bytes = take n text }) (drop n text)) (sym e)
           (subst (λ b. Begins (bytes ++ rest) (record { kind = k; bytes = b }) (drop n text)) (sym front)
-          (subst (λ r. Begins (bytes ++ rest) (record { kind = k; bytes = bytes }) r) (sym behind) begins));
+          (subst (λ r. Begins (bytes ++ rest) (record { kind = k; bytes = bytes }) r) (sym following) begins));
     }
 
--- a piece at the front of a text has its first byte
+-- a piece at the beginning of a text has its first byte
 pub record Opened (b : ℕ) (bs : List ℕ) (k : Option TokenKind) (after : List ℕ) : Type 0 where
   pub more : List ℕ
   pub piece : IsPieceOf k (b ∷ more)
@@ -79,7 +79,7 @@ opened b bs k (y ∷ ys) after is e =
     let first : y ≡ b = cc in
     record { more = ys; piece = subst (λ x. IsPieceOf k (x ∷ ys)) first is; rest_is = cc }
 
--- a text is stuck if no piece with its first byte stands there
+-- a text is stuck if no piece with its first byte is there
 stuck_by : (b : ℕ) (bs : List ℕ) → ((k : Option TokenKind) (more after : List ℕ) → IsPieceOf k (b ∷ more) → bs ≡ more ++ after → ⊥) → IsStuck (b ∷ bs)
 stuck_by b bs none piece after is e =
     let o = opened b bs piece.kind piece.bytes after is e in
@@ -111,7 +111,7 @@ word_begins k b bs rest h word stops =
     let ends : not (is_word_byte next) ≡ true = subst (StopsAt (λ c. not (is_word_byte c))) e stops in
     both_ways (is_word_byte next) (not-true _ ends) goes)
 
--- what the bytes up to the first that is no word byte are
+-- the bytes up to the first that is not a word byte
 word_parts : (b : ℕ) (bs front rest : List ℕ) → class_of b ≡ class.Letter → Run (λ c. not (is_word_byte c)) (b ∷ bs) front rest → (more : List ℕ) × (front ≡ b ∷ more) × IsWord (b ∷ more)
 word_parts b bs [] rest h run =
     let letter = word_start-class b h in
@@ -125,7 +125,7 @@ word_parts b bs (y ∷ ys) rest h run =
       word_of b ys (word_start-class b h) (all_weaker (λ c. not (is_word_byte c) ≡ false) (λ c. is_word_byte c ≡ true) (λ c e. not-false _ e) ys run.fails.1),
     )
 
--- the first bytes of a text up to the first that is no word byte are a word
+-- the bytes of a text up to the first that is not a word byte are a word
 pub word_taken : (text : List ℕ) (n : ℕ) → class_of (get_or text 0 0) ≡ class.Letter → n ≡ unwrap_or (position (λ c. not (is_word_byte c)) text) (length text) → (n ≤ length text) × IsWord (take n text)
 word_taken [] n h e = absurd (let never : class.Other ≡ class.Letter = h in cc)
 word_taken (b ∷ bs) n h e =
@@ -136,7 +136,7 @@ word_taken (b ∷ bs) n h e =
     let len = r.3 in
     (omega arith, subst IsWord (sym (front ∙ p.1)) p.2)
 
--- and its front
+-- the word at the beginning of a text
 pub word_front : (text : List ℕ) (n : ℕ) (k : TokenKind) → class_of (get_or text 0 0) ≡ class.Letter → n ≡ unwrap_or (position (λ c. not (is_word_byte c)) text) (length text) → Spells k (take n text) → IsFront text (Some k) n
 word_front [] n k h e word = absurd (let never : class.Other ≡ class.Letter = h in cc)
 word_front (b ∷ bs) n k h e word =
@@ -183,11 +183,11 @@ line_front inner n e =
     front_of (47 ∷ 47 ∷ inner) (47 ∷ 47 ∷ r.0) r.1 None (2 + n) (ap (λ l. 47 ∷ 47 ∷ l) r.2.split) (omega arith)
     (line_begins r.0 r.1 r.2.fails r.2.stops)
 
--- no `*/` stands before the end of these bytes
+-- no `*/` is before the end of these bytes
 abbrev ClosesFirst : List ℕ → Type 0
 ClosesFirst inner = (before after : List ℕ) → inner ++ 42 ∷ 47 ∷ [] ≡ before ++ 42 ∷ 47 ∷ after → after ≡ []
 
--- two bytes and the rest behind some bytes, put together otherwise
+-- two bytes and the rest after some bytes, grouped otherwise
 closed : (inner rest : List ℕ) → inner ++ 42 ∷ 47 ∷ rest ≡ (inner ++ 42 ∷ 47 ∷ []) ++ rest
 closed inner rest = sym (append_assoc inner (42 ∷ 47 ∷ []) rest)
 
@@ -242,14 +242,14 @@ open_comment text none = record {
 
 -- a quoted text
 
--- bytes that end no quoted text are as `IsQuoted` wants them
+-- bytes that end no quoted text are as `IsQuoted` requires
 within_line : (inner : List ℕ) → AllByRecursion (λ c. ends_quoted c ≡ false) inner → All (λ c. (c ≢ 34) × (c ≢ 10)) inner
 within_line inner none =
     All-from_recursion (λ c. (c ≢ 34) × (c ≢ 10)) inner
     (all_weaker (λ c. ends_quoted c ≡ false) (λ c. (c ≢ 34) × (c ≢ 10))
     (λ c e. let parts = or_parts (c == 34) (is_line_feed c) e in (eqb-false c 34 parts.0, eqb-false c 10 parts.1)) inner none)
 
--- a quote at the end of bytes with none before is the first
+-- a quote at the end of bytes without quotes is the first
 quote_first : (inner front : List ℕ) (tail : List ℕ) → AllByRecursion (λ c. (c ≢ 34) × (c ≢ 10)) inner → inner ++ 34 ∷ [] ≡ front ++ 34 ∷ tail → tail ≡ []
 quote_first [] [] tail none e = cc
 quote_first [] (y ∷ ys) tail none e =
@@ -286,7 +286,7 @@ quoted_front text n e h =
     front_of (34 ∷ text) (34 ∷ (c.0 ++ 34 ∷ [])) c.2 (Some Quoted) (n + 2) (ap (λ l. 34 ∷ l) is) (omega arith)
     (quoted_begins c.0 c.2 c.4)
 
--- no quote in some bytes, or only behind a line feed
+-- no quote in some bytes, or only after a line feed
 pub record NoQuote (text : List ℕ) : Type 0 where
   pub front : List ℕ
   pub rest : List ℕ
@@ -360,7 +360,7 @@ bad_byte b rest h = record {
   no_string = λ opens. let e = opens.1 in let first : b ≡ 34 = cc in let never : class.Other ≡ class.Quote = sym h ∙ ap class_of first in cc;
 }
 
--- the same at a text of which the code knows the first bytes
+-- the same of a text whose first bytes the code knows
 
 first_is : (b : ℕ) (bs : List ℕ) (c : ℕ) (P : List ℕ → Type 0) → b ≡ c → P (c ∷ bs) → P (b ∷ bs)
 first_is b bs c P e h = subst (λ x. P (x ∷ bs)) (sym e) h

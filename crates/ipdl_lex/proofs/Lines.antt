@@ -9,7 +9,7 @@ use Rattle.ipdl_base.specs.declared.token.TokenKind.{TokenKind}
 use Rattle.ipdl_base.specs.declared.token.TokenKind.TheVariants.{Word, Reserved, Quoted, Mark}
 use Rattle.ipdl_base.specs.Words.{is_word_start, is_word_byte, IsWord}
 use Rattle.ipdl_lex.specs.Pieces.{is_line_feed, is_mark, IsQuoted, IsMark, Spells, IsPieceOf}
-use Rattle.ipdl_lex.specs.Scan.{behind_byte, behind_bytes}
+use Rattle.ipdl_lex.specs.Scan.{after_byte, after_bytes}
 use Rattle.ipdl_lex.proofs.Classes.{word_first, word_rest, IsWord-from_reserved}
 
 -- no byte of these is a line feed
@@ -50,21 +50,21 @@ flat_token Reserved bytes h = flat_word bytes (IsWord-from_reserved bytes h)
 flat_token Quoted bytes h = flat_quoted bytes h
 flat_token Mark bytes h = flat_mark bytes h
 
--- so far further on its line
+-- the place further on the line by this number of columns
 abbrev further : Place → ℕ → Place
 further here n = record { file = here.file; line = here.line; column = here.column + n }
 
-behind_flat_byte : (here : Place) (b : ℕ) → is_line_feed b ≡ false → behind_byte here b ≡ further here 1
-behind_flat_byte here b h = rw h refl
+after_flat_byte : (here : Place) (b : ℕ) → is_line_feed b ≡ false → after_byte here b ≡ further here 1
+after_flat_byte here b h = rw h refl
 
-behind_flat : (here : Place) (bytes : List ℕ) → IsFlat bytes → behind_bytes here bytes ≡ further here (length bytes)
-behind_flat here [] h = λ i. record { file = here.file; line = here.line; column = (let e : here.column ≡ here.column + 0 = omega arith in e i) }
-behind_flat here (b ∷ bs) h =
+after_flat : (here : Place) (bytes : List ℕ) → IsFlat bytes → after_bytes here bytes ≡ further here (length bytes)
+after_flat here [] h = λ i. record { file = here.file; line = here.line; column = (let e : here.column ≡ here.column + 0 = omega arith in e i) }
+after_flat here (b ∷ bs) h =
     let columns : here.column + 1 + length bs ≡ here.column + length (b ∷ bs) = omega arith in
-    ap (λ p. behind_bytes p bs) (behind_flat_byte here b h.0)
-    ∙ behind_flat (further here 1) bs h.1
+    ap (λ p. after_bytes p bs) (after_flat_byte here b h.0)
+    ∙ after_flat (further here 1) bs h.1
     ∙ (λ i. record { file = here.file; line = here.line; column = columns i })
 
--- the place behind a token
-pub behind_token : (here : Place) (kind : Option TokenKind) (k : TokenKind) (bytes : List ℕ) → kind ≡ Some k → IsPieceOf kind bytes → behind_bytes here bytes ≡ further here (length bytes)
-behind_token here kind k bytes e h = behind_flat here bytes (flat_token k bytes (subst (λ o. IsPieceOf o bytes) e h))
+-- the place after a token
+pub after_token : (here : Place) (kind : Option TokenKind) (k : TokenKind) (bytes : List ℕ) → kind ≡ Some k → IsPieceOf kind bytes → after_bytes here bytes ≡ further here (length bytes)
+after_token here kind k bytes e h = after_flat here bytes (flat_token k bytes (subst (λ o. IsPieceOf o bytes) e h))

@@ -16,7 +16,7 @@ pub record Run (test : ℕ → Bool) (text front rest : List ℕ) : Type 0 where
   pub fails : AllByRecursion (λ b. test b ≡ false) front
   pub stops : StopsAt test rest
 
--- each list is cut so, and the first part is as long as the place that `position_or_len` gives
+-- each list is cut so, and the length of the first part is what `position_or_len` gives
 pub run_of : (test : ℕ → Bool) (text : List ℕ) → (front : List ℕ) × (rest : List ℕ) × Run test text front rest × (length front ≡ position_or_len test text)
 run_of test [] = ([], [], record { split = refl; fails = tt; stops = tt }, refl)
 run_of test (x ∷ xs) =
@@ -52,7 +52,7 @@ run_up_to test text n e =
     (cases_lt (position_or_len test text) (length text)) in
     (r.0, r.1, r.2, r.3 ∙ sym same ∙ sym e)
 
--- what `position` says of a list: no element passes the test, or it is cut at the first that does
+-- what `position` means for a list: no element passes the test, or it is cut at the first that does
 abbrev pub CutBy : (ℕ → Bool) → List ℕ → Option ℕ → Type 0
 CutBy test text None = AllByRecursion (λ b. test b ≡ false) text
 CutBy test text (Some n) =
@@ -72,7 +72,7 @@ cut_by test text o e =
     let r = run_of test text in
     subst (CutBy test text) (sym e) (cut_by_run test text r.0 r.1 r.2 r.3)
 
--- `*/` stands where it is written
+-- `*/` is where it is written
 pub closes_at : (before after : List ℕ) → ClosesAt (before ++ 42 ∷ 47 ∷ after) (length before)
 closes_at before after = record {
   star = get_or_at before 42 (47 ∷ after) 0 (length before) refl;
@@ -83,7 +83,7 @@ closes_within : (text : List ℕ) (k : ℕ) → ClosesAt text k → k + 1 < leng
 closes_within text k h =
     ⊎_elim (λ inside. inside) (λ past. absurd (let e = get_or_past text (k + 1) 0 past in let s = h.slash in omega arith)) (cases_lt (k + 1) (length text))
 
--- and is written where it stands
+-- `*/` is written where it is
 pub closes_split : (text : List ℕ) (k : ℕ) → ClosesAt text k → (before : List ℕ) × (after : List ℕ) × (text ≡ before ++ 42 ∷ 47 ∷ after) × (length before ≡ k)
 closes_split text k h =
     let inside = closes_within text k h in
@@ -91,9 +91,9 @@ closes_split text k h =
     let second = drop_more text (k + 1) 0 inside in
     let star = h.star in
     let slash = h.slash in
-    let behind : drop k text ≡ 42 ∷ 47 ∷ drop (k + 1 + 1) text = cc in (
+    let following : drop k text ≡ 42 ∷ 47 ∷ drop (k + 1 + 1) text = cc in (
       take k text,
       drop (k + 1 + 1) text,
-      sym (take-append-drop k text) ∙ ap (λ l. take k text ++ l) behind,
+      sym (take-append-drop k text) ∙ ap (λ l. take k text ++ l) following,
       length-take-le k text (omega arith),
     )

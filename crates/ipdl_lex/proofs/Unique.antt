@@ -6,15 +6,15 @@ use Rattle.std.proofs.lemmas.List.{append_cancel_right}
 use Rattle.std.proofs.lemmas.List.Elements.{recursion_from_All}
 use Rattle.ipdl_base.specs.declared.finding.Place.{Place}
 use Rattle.ipdl_base.specs.declared.token.TokenKind.{TokenKind}
-use Rattle.ipdl_lex.specs.declared.token.Lexed.{Lexed}
+use Rattle.ipdl_lex.specs.declared.token.LexedText.{LexedText}
 use Rattle.ipdl_lex.specs.declared.token.LexFault.{LexFault}
 use Rattle.ipdl_lex.specs.declared.token.LexFault.TheVariants.{BadByte, OpenComment, OpenString, TooLong, NoMemory}
 use Rattle.ipdl_lex.specs.Pieces.{Piece, IsPieceOf}
-use Rattle.ipdl_lex.specs.Places.{place_behind}
+use Rattle.ipdl_lex.specs.Places.{place_after}
 use Rattle.ipdl_lex.specs.Tokens.{Begins, Cuts, IsShort, tokens_of, IsTokens, IsStuck, IsOpenComment, IsOpenString, IsTooLong, FailsAt, IsFault, Gives}
 use Rattle.ipdl_lex.proofs.Classes.{kind_unique, piece_nonempty}
 
--- two fronts of one list that are equally long are equal, and so are the rests
+-- two prefixes of one list with the same length are equal, and the rests are too
 fronts_same : (a b r s : List ℕ) → a ++ r ≡ b ++ s → length a ≡ length b → (a ≡ b) × (r ≡ s)
 fronts_same [] [] r s e l = (refl, e)
 fronts_same [] (y ∷ ys) r s e l = absurd (omega arith)
@@ -66,7 +66,7 @@ ends_failing rest here (OpenString place) fails = ends_stuck rest fails.1.stuck
 ends_failing rest here (TooLong place) fails = ends_long rest fails.1
 ends_failing rest here NoMemory fails = absurd fails
 
--- a text is cut one way as far as it goes
+-- a text is cut in one way as far as it goes
 cuts_same : (text : List ℕ) (ps qs : List Piece) (r s : List ℕ) → Cuts text ps r → Cuts text qs s → AllByRecursion IsShort ps → AllByRecursion IsShort qs → Ends r → Ends s → (ps ≡ qs) × (r ≡ s)
 cuts_same text [] [] r s c d short_p short_q ends_r ends_s = (refl, sym c ∙ d)
 cuts_same text [] (q ∷ qs) r s c d short_p short_q ends_r ends_s = absurd (ends_r q d.0 (subst (λ t. Begins t q d.0) c d.1) short_q.0)
@@ -76,7 +76,7 @@ cuts_same text (p ∷ ps) (q ∷ qs) r s c d short_p short_q ends_r ends_s =
     let rest = cuts_same c.0 ps qs r s c.2 (subst (λ t. Cuts t qs s) (sym same.1) d.2) short_p.1 short_q.1 ends_r ends_s in
     (λ i. same.0 i ∷ rest.0 i, rest.1)
 
-pub tokens_unique : (file : ℕ) (text : List ℕ) (a b : Lexed) → IsTokens file text a → IsTokens file text b → a ≡ b
+pub tokens_unique : (file : ℕ) (text : List ℕ) (a b : LexedText) → IsTokens file text a → IsTokens file text b → a ≡ b
 tokens_unique file text a b h i =
     let short_h = recursion_from_All IsShort h.pieces h.short in
     let short_i = recursion_from_All IsShort i.pieces i.short in
@@ -131,11 +131,11 @@ fails_same rest here (TooLong p) NoMemory h i = absurd i
 pub fault_unique : (file : ℕ) (text : List ℕ) (a b : LexFault) → IsFault file text a → IsFault file text b → a ≡ b
 fault_unique file text a b h i =
     let same = faults_same file text a b h i in
-    fails_same i.rest (place_behind file i.before) a b
-    (subst (λ r. FailsAt r (place_behind file i.before) a) same.0 (subst (λ x. FailsAt h.rest (place_behind file x) a) same.1 h.fails))
+    fails_same i.rest (place_after file i.before) a b
+    (subst (λ r. FailsAt r (place_after file i.before) a) same.0 (subst (λ x. FailsAt h.rest (place_after file x) a) same.1 h.fails))
     i.fails
 
--- nothing is wrong where a text ends
+-- there is no fault where a text ends
 fails_nowhere : (here : Place) (fault : LexFault) → FailsAt [] here fault → ⊥
 fails_nowhere here (BadByte place) fails = fails.1.is_byte refl
 fails_nowhere here (OpenComment place) fails = let is = fails.1.opens.1 in cc
@@ -148,21 +148,21 @@ fails_nowhere here (TooLong place) fails =
     ends_empty_piece k (b ∷ bs) after is e = cc
 fails_nowhere here NoMemory fails = fails
 
-pub never_both : (file : ℕ) (text : List ℕ) (lexed : Lexed) (fault : LexFault) → IsTokens file text lexed → IsFault file text fault → ⊥
+pub never_both : (file : ℕ) (text : List ℕ) (lexed : LexedText) (fault : LexFault) → IsTokens file text lexed → IsFault file text fault → ⊥
 never_both file text lexed fault h i =
     let short_h = recursion_from_All IsShort h.pieces h.short in
     let short_i = recursion_from_All IsShort i.pieces i.short in
     let same = cuts_same text h.pieces i.pieces [] i.rest h.cut i.cut short_h short_i ends_empty (ends_failing i.rest _ fault i.fails) in
-    fails_nowhere (place_behind file i.before) fault (subst (λ r. FailsAt r (place_behind file i.before) fault) (sym same.1) i.fails)
+    fails_nowhere (place_after file i.before) fault (subst (λ r. FailsAt r (place_after file i.before) fault) (sym same.1) i.fails)
 
--- so a call that gives the tokens or the fault gives every such
+-- so a call that gives tokens or a fault gives the only ones
 
-pub only_tokens : (file : ℕ) (text : List ℕ) (r : Result Lexed LexFault) → IfOk r (IsTokens file text) → IfErr r (λ fault. (fault ≡ NoMemory) ⊎ IsFault file text fault)
-    → (lexed : Lexed) → IsTokens file text lexed → Gives r (Ok lexed)
+pub only_tokens : (file : ℕ) (text : List ℕ) (r : Result LexedText LexFault) → IfOk r (IsTokens file text) → IfErr r (λ fault. (fault ≡ NoMemory) ⊎ IsFault file text fault)
+    → (lexed : LexedText) → IsTokens file text lexed → Gives r (Ok lexed)
 only_tokens file text (Ok found) h i lexed is = inr (ap Ok (tokens_unique file text found lexed h is))
 only_tokens file text (Err fault) h i lexed is = ⊎_elim (λ e. inl (ap Err e)) (λ f. absurd (never_both file text lexed fault is f)) i
 
-pub only_fault : (file : ℕ) (text : List ℕ) (r : Result Lexed LexFault) → IfOk r (IsTokens file text) → IfErr r (λ fault. (fault ≡ NoMemory) ⊎ IsFault file text fault)
+pub only_fault : (file : ℕ) (text : List ℕ) (r : Result LexedText LexFault) → IfOk r (IsTokens file text) → IfErr r (λ fault. (fault ≡ NoMemory) ⊎ IsFault file text fault)
     → (fault : LexFault) → IsFault file text fault → Gives r (Err fault)
 only_fault file text (Ok found) h i fault is = absurd (never_both file text found fault h is)
 only_fault file text (Err found) h i fault is = ⊎_elim (λ e. inl (ap Err e)) (λ f. inr (ap Err (fault_unique file text found fault f is))) i

@@ -1,4 +1,4 @@
--- The table of the bytes that may stand in a word.
+-- The table of the bytes that a word may contain.
 use Rattle.std.proofs.Common.{◌≡◌, ◌∙◌, ℕ, zero, suc, ◌+◌, ◌<◌, Bool, true, false, ◌&&◌, List, [], ◌∷◌, length, get_or, refl, sym, ap, arith}
 use Rattle.ipdl_base.specs.Words.{is_word_byte}
 
@@ -17,7 +17,7 @@ both : (a b : Bool) → a && b ≡ true → (a ≡ true) × (b ≡ true)
 both true b h = (refl, h)
 both false b h = (h, let wrong : false ≡ true = h in cc)
 
--- a table tells of the bytes from this one on
+-- a table agrees with the test from this byte on
 agrees : List Bool → ℕ → Bool
 agrees [] i = true
 agrees (x ∷ xs) i = same x (is_word_byte i) && agrees xs (i + 1)

@@ -21,7 +21,7 @@ Contains-decides words bytes =
 pub reserved_decided : (word : List ℕ) → IsTrue (is_reserved word) ↔ Contains reserved_words word
 reserved_decided word = Contains-decides reserved_words word
 
--- words that have the same bytes have as many
+-- words with the same bytes have the same length
 as_long : (word w : List ℕ) → bytes_eq word w ≡ true → (length w == length word) ≡ true
 as_long word w same = subst (λ (u : List ℕ). (length u == length word) ≡ true) ((bytes_eq-Decides word w).0 same) (search rules)
 
@@ -29,12 +29,12 @@ among_as_long : (words : List (List ℕ)) (word : List ℕ) → list_any (λ w. 
 among_as_long words word = any-filter_same (λ w. bytes_eq word w) (λ w. length w == length word) true (as_long word) words
 
 -- a test asks the same of words and of references to them
-any_behind : (p : List ℕ → Bool) (words : List (Bor (List ℕ))) → list_any (λ w. p w.now) words ≡ list_any p (map (λ (w : Bor (List ℕ)). w.now) words)
-any_behind p [] = refl
-any_behind p (w ∷ words) = ap (λ b. p w.now || b) (any_behind p words)
+any_after : (p : List ℕ → Bool) (words : List (Bor (List ℕ))) → list_any (λ w. p w.now) words ≡ list_any p (map (λ (w : Bor (List ℕ)). w.now) words)
+any_after p [] = refl
+any_after p (w ∷ words) = ap (λ b. p w.now || b) (any_after p words)
 
--- as code asks, of words that it has by reference
+-- the same as the code does it, of words that it has by reference
 pub found_as_long : (word : List ℕ) (words : List (Bor (List ℕ))) → map (λ (w : Bor (List ℕ)). w.now) words ≡ reserved_of_length (length word) → IsTrue (list_any (λ w. bytes_eq word w.now) words) ↔ Contains reserved_words word
 found_as_long word words same =
-    let found = any_behind (λ w. bytes_eq word w) words ∙ (ap (list_any (λ w. bytes_eq word w)) same ∙ among_as_long reserved_words word) in
+    let found = any_after (λ w. bytes_eq word w) words ∙ (ap (list_any (λ w. bytes_eq word w)) same ∙ among_as_long reserved_words word) in
     subst (λ (b : Bool). IsTrue b ↔ Contains reserved_words word) (sym found) (reserved_decided word)

@@ -17,7 +17,7 @@ is_line_feed b = b == 10
 abbrev pub is_mark : ℕ → Bool
 is_mark b = list_any (λ c. c == b) (codes "{}()[]<>;,:=?")
 
--- the words that the language keeps for itself
+-- the reserved words of the language
 abbrev pub reserved_words : List (List ℕ)
 reserved_words =
     codes "async" ∷ codes "both" ∷ codes "child" ∷ codes "class" ∷ codes "from" ∷ codes "include"
@@ -25,7 +25,7 @@ reserved_words =
     ∷ codes "parent" ∷ codes "protocol" ∷ codes "returns" ∷ codes "struct" ∷ codes "sync"
     ∷ codes "union" ∷ codes "UniquePtr" ∷ codes "using" ∷ []
 
--- two quotes, and between them no quote and no line feed
+-- bytes between two quotes, none of them a quote or a line feed
 pub record IsQuoted (bytes : List ℕ) : Type 0 where
   pub inner : List ℕ
   pub spelled : bytes ≡ 34 ∷ inner ++ 34 ∷ []
@@ -46,13 +46,13 @@ Spells Mark bytes = IsMark bytes
 abbrev pub IsBlank : List ℕ → Type 0
 IsBlank bytes = (b : ℕ) × IsTrue (is_blank b) × (bytes ≡ b ∷ [])
 
--- `//`, and no line feed behind it
+-- `//` and then any bytes but line feeds
 pub record IsLineComment (bytes : List ℕ) : Type 0 where
   pub inner : List ℕ
   pub spelled : bytes ≡ codes "//" ++ inner
   pub within_line : All (λ c. c ≢ 10) inner
 
--- `/*`, any bytes, and `*/`, which is the first `*/` behind the `/*`
+-- `/*`, any bytes, and the first `*/` after the `/*`
 pub record IsBlockComment (bytes : List ℕ) : Type 0 where
   pub inner : List ℕ
   pub spelled : bytes ≡ codes "/*" ++ (inner ++ codes "*/")
@@ -62,7 +62,7 @@ pub record IsBlockComment (bytes : List ℕ) : Type 0 where
 abbrev pub IsSpacing : List ℕ → Type 0
 IsSpacing bytes = IsBlank bytes ⊎ (IsLineComment bytes ⊎ IsBlockComment bytes)
 
--- Some bytes, and the kind of token that they spell; no kind stands at a blank or a comment.
+-- Some bytes, and the kind of token that they spell; a blank or a comment has no kind.
 pub record Piece : Type 0 where
   pub kind : Option TokenKind
   pub bytes : List ℕ
@@ -72,6 +72,6 @@ abbrev pub IsPieceOf : Option TokenKind → List ℕ → Type 0
 IsPieceOf None bytes = IsSpacing bytes
 IsPieceOf (Some kind) bytes = Spells kind bytes
 
--- the piece's bytes are what its kind says
+-- the piece's bytes spell its kind
 abbrev pub IsPiece : Piece → Type 0
 IsPiece piece = IsPieceOf piece.kind piece.bytes

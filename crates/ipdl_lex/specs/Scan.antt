@@ -1,4 +1,4 @@
--- What the functions of the scan find at the front of a text.
+-- What the functions of the scan find at the beginning of a text.
 use Rattle.std.specs.Prelude.{◌≡◌, ℕ, Bool, ◌==◌, ◌||◌, filter, ◌+◌, ◌≤◌, if◌then◌else◌, List, length, take, drop, fold, Option, slice_index}
 use Rattle.std.specs.List.{list_any}
 use Rattle.std.specs.Str.{bytes_eq}
@@ -20,11 +20,11 @@ class_of b =
     else (if is_word_start b then class.Letter
     else class.Other))))
 
--- whether a word is one that the language keeps for itself
+-- whether a word is reserved
 abbrev pub is_reserved : List ℕ → Bool
 is_reserved word = list_any (λ w. bytes_eq word w) reserved_words
 
--- the words of so many bytes that the language keeps for itself
+-- the reserved words of this length in bytes
 abbrev pub reserved_of_length : ℕ → List (List ℕ)
 reserved_of_length bytes = filter (λ w. length w == bytes) reserved_words
 
@@ -32,24 +32,24 @@ reserved_of_length bytes = filter (λ w. length w == bytes) reserved_words
 abbrev pub ends_quoted : ℕ → Bool
 ends_quoted b = b == 34 || is_line_feed b
 
--- `*/` stands at this index
+-- `*/` is at this index
 pub record ClosesAt (text : List ℕ) (k : ℕ) : Type 0 where
   pub star : slice_index text k ≡ 42
   pub slash : slice_index text (k + 1) ≡ 47
 
--- a piece of this kind begins the text, and has this many bytes
+-- the text begins with a piece of this kind and length
 pub record IsFront (text : List ℕ) (kind : Option TokenKind) (len : ℕ) : Type 0 where
   pub fits : len ≤ length text
   pub begins : Begins text (record { kind = kind; bytes = take len text }) (drop len text)
 
 -- the place of the next byte
-abbrev pub behind_byte : Place → ℕ → Place
-behind_byte here b = record {
+abbrev pub after_byte : Place → ℕ → Place
+after_byte here b = record {
   file = here.file;
   line = if is_line_feed b then here.line + 1 else here.line;
   column = if is_line_feed b then 1 else here.column + 1;
 }
 
--- the place behind these bytes
-abbrev pub behind_bytes : Place → List ℕ → Place
-behind_bytes here bytes = fold behind_byte here bytes
+-- the place after these bytes
+abbrev pub after_bytes : Place → List ℕ → Place
+after_bytes here bytes = fold after_byte here bytes

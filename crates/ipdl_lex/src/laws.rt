@@ -1,7 +1,9 @@
+//! The law on the words among the tokens of a text.
+
 ghost use Rattle.ipdl_lex.specs.Laws.{WordsHold};
 
-/// The law of the words: the text of each word among the tokens of a text is a word, and each token
-/// stands in the text's file.
+/// The law of words: the text of each word among the tokens of a text is a word, and the place of
+/// each token is in the text's file.
 pub fn words_hold()
     ensures { WordsHold }
 {}

@@ -1,4 +1,4 @@
-//! The tokens of a text with their places, which borrow its bytes, or its first fault
+//! Reads a text as tokens with their places, which borrow its bytes, or gives its first fault
 //! (docs/tokens.md).
 #![tactic(auto)]
 
@@ -9,4 +9,4 @@ mod token;
 pub use ipdl_base::{Token, TokenKind, Tokens};
 pub use laws::words_hold;
 pub use scan::{is_reserved, lex, one_answer};
-pub use token::{LexFault, Lexed};
+pub use token::{LexFault, LexedText};

@@ -1,3 +1,5 @@
+//! Cuts a text into tokens, blanks and comments, from left to right.
+
 ghost use Rattle.std.specs.Prelude.{◌≡◌, ◌↔◌, ℕ, ◌+◌, ◌<◌, ◌≤◌, ◌^◌, ◌-◌, ◌⊎◌, ◌++◌, Some, None, IsTrue, IfOk, IfErr, OnOk, IfSome, IfNone, Contains, map, not, length, position, List, Ok, Err, slice_index, take};
 ghost use Rattle.std.specs.List.{list_any};
 ghost use Rattle.std.specs.Str.{bytes_eq};
@@ -5,12 +7,12 @@ ghost use Rattle.ipdl_base.specs.declared.files.TheConstants.{MOST_BYTES};
 ghost use Rattle.ipdl_base.specs.Words.{is_word_start, is_word_byte, IsWord};
 ghost use Rattle.ipdl_lex.specs.Pieces.{is_blank, is_line_feed, is_mark, reserved_words, IsPieceOf, Spells};
 ghost use Rattle.ipdl_lex.specs.Tokens.{FailsAt, IsShortOf, IsTokens, IsFault, Gives, token_at};
-ghost use Rattle.ipdl_lex.specs.declared.token.Lexed.{Lexed};
+ghost use Rattle.ipdl_lex.specs.declared.token.LexedText.{LexedText};
 ghost use Rattle.ipdl_lex.specs.declared.token.LexFault.{LexFault};
 ghost use Rattle.ipdl_lex.specs.declared.token.LexFault.TheVariants.{NoMemory};
-ghost use Rattle.ipdl_lex.specs.Scan.{reserved_of_length, class_of, ends_quoted, ClosesAt, IsFront, behind_byte, behind_bytes};
+ghost use Rattle.ipdl_lex.specs.Scan.{reserved_of_length, class_of, ends_quoted, ClosesAt, IsFront, after_byte, after_bytes};
 
-use crate::token::{LexFault, Lexed};
+use crate::token::{LexFault, LexedText};
 use ipdl_base::{Items, Place, Token, TokenKind};
 use std::alloc::{AllocError, Global};
 
@@ -25,8 +27,8 @@ enum PieceClass {
     Other,
 }
 
-/// The piece at the front of a text: the kind of its token, or none for a blank or a comment, and
-/// the number of its bytes.
+/// The piece that a text begins with: the kind of its token (`None` for a blank or a comment) and
+/// its length in bytes.
 #[derive(Clone, Copy)]
 struct PieceFront {
     kind: Option<TokenKind>,
@@ -51,7 +53,7 @@ fn is_word_start(b: u8) -> bool
     b.is_ascii_alphabetic() || b == b'_'
 }
 
-/// For each byte whether it may stand in a word.
+/// For each byte, whether a word may contain it.
 const WORD_BYTES: [bool; 256] = [
     false, false, false, false, false, false, false, false, false, false, false, false, false,
     false, false, false, false, false, false, false, false, false, false, false, false, false,
@@ -89,7 +91,7 @@ fn is_mark(b: u8) -> bool
     )
 }
 
-/// The reserved words that have so many bytes.
+/// Returns the reserved words of this length in bytes.
 fn reserved_of_length(bytes: usize) -> &'static [&'static [u8]]
     ensures { map (λ w. w.now) result.now ≡ reserved_of_length bytes }
 {
@@ -111,7 +113,7 @@ fn is_among(words: &[&[u8]], word: &[u8]) -> bool
     words.iter().any(|other| word == *other)
 }
 
-/// Whether the language keeps the word for itself (docs/tokens.md).
+/// Returns whether the word is a reserved word of the language (docs/tokens.md).
 pub fn is_reserved(word: &[u8]) -> bool
     ensures { IsTrue result ↔ Contains reserved_words word.now }
 {
@@ -136,28 +138,28 @@ fn class_of(b: u8) -> PieceClass
     }
 }
 
-/// The index of the first byte that may not stand in a word.
+/// Returns the index of the first byte that no word may contain, or `None`.
 fn word_end(text: &[u8]) -> Option<usize>
     ensures { result ≡ position (λ b. not (is_word_byte b)) text.now }
 {
     text.iter().position(|b| !is_word_byte(*b))
 }
 
-/// The index of the first line feed.
+/// Returns the index of the first line feed, or `None`.
 fn line_end(text: &[u8]) -> Option<usize>
     ensures { result ≡ position is_line_feed text.now }
 {
     text.iter().position(|b| *b == b'\n')
 }
 
-/// The index of the first byte that ends a quoted text, a quote or a line feed.
+/// Returns the index of the first byte that ends a quoted text (a quote or a line feed), or `None`.
 fn quoted_end(text: &[u8]) -> Option<usize>
     ensures { result ≡ position ends_quoted text.now }
 {
     text.iter().position(|b| *b == b'"' || *b == b'\n')
 }
 
-/// The index of the first `*/`.
+/// Returns the index of the first `*/`, or `None`.
 fn close_at(text: &[u8]) -> Option<usize>
     ensures found { IfSome result (λ n. ClosesAt text.now n) }
     ensures first { IfSome result (λ n. (k : ℕ) → k < n → ¬ ClosesAt text.now k) }
@@ -171,7 +173,7 @@ fn close_at(text: &[u8]) -> Option<usize>
     None
 }
 
-/// The kind of a word.
+/// Returns the kind of a word: reserved or not.
 fn word_kind(word: &[u8]) -> TokenKind
     requires { IsWord word.now }
     ensures { Spells result word.now }
@@ -183,7 +185,7 @@ fn word_kind(word: &[u8]) -> TokenKind
     }
 }
 
-/// The word at the front.
+/// Reads the word that the text begins with.
 fn word(text: &[u8]) -> PieceFront
     requires { class_of (slice_index text.now 0) ≡ PieceClass.Letter }
     ensures { IsFront text.now result.kind result.len }
@@ -196,7 +198,7 @@ fn word(text: &[u8]) -> PieceFront
     }
 }
 
-/// The comment at the front.
+/// Reads the comment that the text begins with.
 fn comment(text: &[u8], here: Place) -> Result<PieceFront, LexFault>
     requires { class_of (slice_index text.now 0) ≡ PieceClass.Slash }
     ensures front { IfOk result (λ found. IsFront text.now found.kind found.len) }
@@ -227,7 +229,7 @@ fn comment(text: &[u8], here: Place) -> Result<PieceFront, LexFault>
     }
 }
 
-/// The quoted text at the front.
+/// Reads the quoted text that the text begins with.
 fn quoted(text: &[u8], here: Place) -> Result<PieceFront, LexFault>
     requires { class_of (slice_index text.now 0) ≡ PieceClass.Quote }
     ensures front { IfOk result (λ found. IsFront text.now found.kind found.len) }
@@ -246,7 +248,7 @@ fn quoted(text: &[u8], here: Place) -> Result<PieceFront, LexFault>
     })
 }
 
-/// The mark at the front.
+/// Reads the mark that the text begins with.
 fn mark(text: &[u8]) -> PieceFront
     requires { class_of (slice_index text.now 0) ≡ PieceClass.Mark }
     ensures { IsFront text.now result.kind result.len }
@@ -257,7 +259,7 @@ fn mark(text: &[u8]) -> PieceFront
     }
 }
 
-/// The piece at the front of a text that begins at this place.
+/// Reads the first piece of a text that begins at `here`.
 fn front(text: &[u8], here: Place) -> Result<PieceFront, LexFault>
     requires { 0 < length text.now }
     ensures front { IfOk result (λ found. IsFront text.now found.kind found.len) }
@@ -273,7 +275,7 @@ fn front(text: &[u8], here: Place) -> Result<PieceFront, LexFault>
     }
 }
 
-/// The piece at the front, whose token, if it is one, has at most 256 bytes.
+/// Reads the first piece of a text. Fails if it is a token of more than 256 bytes.
 fn short_front(text: &[u8], here: Place) -> Result<PieceFront, LexFault>
     requires { 0 < length text.now }
     ensures front { IfOk result (λ found. IsFront text.now found.kind found.len) }
@@ -287,11 +289,11 @@ fn short_front(text: &[u8], here: Place) -> Result<PieceFront, LexFault>
     Ok(found)
 }
 
-/// The place of the byte behind this one.
-fn behind_byte(here: Place, b: u8) -> Place
+/// Returns the place of the byte after this one.
+fn after_byte(here: Place, b: u8) -> Place
     requires line { here.line < 2 ^ 32 - 1 }
     requires column { here.column < 2 ^ 32 - 1 }
-    ensures { result ≡ behind_byte here b }
+    ensures { result ≡ after_byte here b }
 {
     if b == b'\n' {
         Place {
@@ -308,28 +310,28 @@ fn behind_byte(here: Place, b: u8) -> Place
     }
 }
 
-/// The place behind these bytes.
-fn behind_bytes(here: Place, bytes: &[u8]) -> Place
+/// Returns the place after these bytes.
+fn after_bytes(here: Place, bytes: &[u8]) -> Place
     requires line { here.line + length bytes.now < 2 ^ 32 }
     requires column { here.column + length bytes.now < 2 ^ 32 }
-    ensures { result ≡ behind_bytes here bytes.now }
+    ensures { result ≡ after_bytes here bytes.now }
 {
     let mut place = here;
     for b in bytes {
-        place = behind_byte(place, *b);
+        place = after_byte(place, *b);
     }
     place
 }
 
-/// The place behind a piece. A token has no line feed, so it is further on its line by its bytes.
-fn behind_piece(here: Place, kind: Option<TokenKind>, bytes: &[u8]) -> Place
+/// Returns the place after a piece. A token has no line feed, so its length is added to the column.
+fn after_piece(here: Place, kind: Option<TokenKind>, bytes: &[u8]) -> Place
     requires piece { IsPieceOf kind bytes.now }
     requires line { here.line + length bytes.now < 2 ^ 32 }
     requires column { here.column + length bytes.now < 2 ^ 32 }
-    ensures { result ≡ behind_bytes here bytes.now }
+    ensures { result ≡ after_bytes here bytes.now }
 {
     match kind {
-        None => behind_bytes(here, bytes),
+        None => after_bytes(here, bytes),
         Some(_) => Place {
             file: here.file,
             line: here.line,
@@ -338,7 +340,7 @@ fn behind_piece(here: Place, kind: Option<TokenKind>, bytes: &[u8]) -> Place
     }
 }
 
-/// Adds the token of a piece, if it is one.
+/// Adds the token of a piece to the list. A blank or a comment adds nothing.
 fn keep<'t>(
     tokens: &mut Vec<Token<'t>>,
     kind: Option<TokenKind>,
@@ -353,8 +355,8 @@ fn keep<'t>(
     Ok(())
 }
 
-/// The tokens of a text, or why it has none.
-fn scan(alloc: Global, text: &[u8], file: u32) -> Result<Lexed<'_>, LexFault>
+/// Returns the tokens of a text, or its first fault.
+fn scan(alloc: Global, text: &[u8], file: u32) -> Result<LexedText<'_>, LexFault>
     requires { length text.now ≤ MOST_BYTES }
     ensures tokens { IfOk result (IsTokens file text.now) }
     ensures fault { IfErr result (λ fault. (fault ≡ NoMemory) ⊎ IsFault file text.now fault) }
@@ -370,33 +372,33 @@ fn scan(alloc: Global, text: &[u8], file: u32) -> Result<Lexed<'_>, LexFault>
         let found = short_front(rest, here)?;
         let (bytes, after) = rest.split_at(found.len);
         keep(&mut tokens, found.kind, bytes, here)?;
-        here = behind_piece(here, found.kind, bytes);
+        here = after_piece(here, found.kind, bytes);
         rest = after;
     }
-    Ok(Lexed {
+    Ok(LexedText {
         tokens: Items::from_vec(tokens),
         end: here,
     })
 }
 
-/// The tokens of the text of the file with this number, and the place behind its last byte
-/// (docs/tokens.md). A fault is the first from the left: the place of the first byte at which
-/// neither a token nor a blank or a comment begins, or of the first token of more than 256 bytes.
-pub fn lex(alloc: Global, text: &[u8], file: u32) -> Result<Lexed<'_>, LexFault>
+/// Returns the tokens of the text of the file with this number, and the place after its last byte
+/// (docs/tokens.md). A fault is the first from the left. Its place is that of the first byte at
+/// which no token, blank or comment begins, or that of the first token of more than 256 bytes.
+pub fn lex(alloc: Global, text: &[u8], file: u32) -> Result<LexedText<'_>, LexFault>
     requires { length text.now ≤ MOST_BYTES }
     ensures tokens { IfOk result (IsTokens file text.now) }
     ensures fault { IfErr result (λ fault. (fault ≡ NoMemory) ⊎ IsFault file text.now fault) }
 
-    // A text that has tokens or a fault gets these, unless memory runs out.
-    ensures only_tokens { (lexed : Lexed) → IsTokens file text.now lexed → Gives result (Ok lexed) }
+    // The result is the text's tokens or its fault, unless memory runs out.
+    ensures only_tokens { (lexed : LexedText) → IsTokens file text.now lexed → Gives result (Ok lexed) }
     ensures only_fault { (fault : LexFault) → IsFault file text.now fault → Gives result (Err fault) }
 {
     scan(alloc, text, file)
 }
 
-/// A text has at most one list of tokens, at most one fault, and never both.
+/// The law of one result: a text has at most one list of tokens, at most one fault, and never both.
 pub fn one_answer()
-    ensures tokens { (file : ℕ) (text : List ℕ) (a b : Lexed) → IsTokens file text a → IsTokens file text b → a ≡ b }
+    ensures tokens { (file : ℕ) (text : List ℕ) (a b : LexedText) → IsTokens file text a → IsTokens file text b → a ≡ b }
     ensures fault { (file : ℕ) (text : List ℕ) (a b : LexFault) → IsFault file text a → IsFault file text b → a ≡ b }
-    ensures never_both { (file : ℕ) (text : List ℕ) (lexed : Lexed) (fault : LexFault) → IsTokens file text lexed → ¬ IsFault file text fault }
+    ensures never_both { (file : ℕ) (text : List ℕ) (lexed : LexedText) (fault : LexFault) → IsTokens file text lexed → ¬ IsFault file text fault }
 {}

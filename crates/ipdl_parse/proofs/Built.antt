@@ -1,4 +1,4 @@
--- Behind a first token, what its production takes makes what the form takes.
+-- A first token and the tokens that its production takes are tokens that the form takes.
 use Rattle.std.proofs.Common.{◌≡◌, ℕ, suc, ◌-◌, ◌≤◌, ◌<◌, inl, inr, true, false, List, [], ◌∷◌, length, Some, None, codes, refl, subst, arith}
 use Rattle.std.specs.Prelude.{nat_lt}
 use Rattle.ipdl_base.specs.Words.{joined}
@@ -17,19 +17,19 @@ use Rattle.tree_reader.specs.Ending as ending
 use Rattle.tree_reader.specs.declared.symbol.Symbol.{Symbol}
 use Rattle.tree_reader.specs.declared.symbol.Symbol.TheVariants.{End, Word, Quoted, OtherWord, OtherMark, Colons, OpenBrace, CloseBrace, OpenParen, CloseParen, OpenBracket, CloseBracket, Less, Greater, Semicolon, Comma, Colon, Equals, Question, Async, Both, Child, Class, From, Include, Manager, Manages, Namespace, Nullable, Or, Parent, Protocol, Returns, Struct, Sync, Union, UniquePtr, Using}
 use Rattle.tree_reader.specs.Symbols.{symbol}
-use Rattle.tree_reader.specs.Machine.{Form, take, any_word, argument_name, argument_words, suffixed, named, based, typed, attributed, behind_attribute, more_attributed, one_param, parameters, more_parameters, behind_parameters, one_message, messaged, managing, more_managing, fielded, componented, using_named, using_word, behind_using, include_named, production, ends, suffix_begins, base_begins, type_begins, param_begins, section_begins}
+use Rattle.tree_reader.specs.Machine.{Form, take, any_word, argument_name, argument_words, suffixed, named, based, typed, attributed, after_attribute, more_attributed, one_param, parameters, more_parameters, after_parameters, one_message, messaged, managing, more_managing, fielded, componented, using_named, using_word, after_using, include_named, production, ends, suffix_begins, base_begins, type_begins, param_begins, section_begins}
 use Rattle.std.proofs.lemmas.Bool.{ltb-true}
 use Rattle.std.specs.declared.alloc.Global.{Global}
 use Rattle.std.specs.declared.boxed.Box.{Box}
 use denote.RawPtr.{null_ptr}
 use Rattle.tree_reader.proofs.Symbols.{means}
-use Rattle.ipdl_parse.proofs.Meaning.{ending_part, closed, Takes, TakeAll, Behind, behind_apart, was_allowed}
+use Rattle.ipdl_parse.proofs.Meaning.{ending_part, closed, Takes, TakeAll, Following, after_apart, was_allowed}
 
--- what is built of a form behind a first token
+-- what is built of a form after a first token
 abbrev pub Builds : Form → Symbol → Type 0
-Builds f s = (t : Token) (rest to : List Token) → symbol t ≡ s → Behind (production f s) rest to → Takes f (t ∷ rest) to
+Builds f s = (t : Token) (rest to : List Token) → symbol t ≡ s → Following (production f s) rest to → Takes f (t ∷ rest) to
 
-ends_mark : (t : Token) (e : Ending) (s : Symbol) (rest to : List Token) → symbol t ≡ s → Behind (ends e s) rest to → ending_part e (t ∷ rest) to
+ends_mark : (t : Token) (e : Ending) (s : Symbol) (rest to : List Token) → symbol t ≡ s → Following (ends e s) rest to → ending_part e (t ∷ rest) to
 ends_mark t ending.Name Word rest to is eq = subst (λ (x : List Token). ending_part ending.Name (t ∷ rest) x) eq (t, refl, means t Word is)
 ends_mark t ending.Semicolon Semicolon rest to is eq = subst (λ (x : List Token). ending_part ending.Semicolon (t ∷ rest) x) eq (t, refl, means t Semicolon is)
 ends_mark t ending.Greater Greater rest to is eq = subst (λ (x : List Token). ending_part ending.Greater (t ∷ rest) x) eq (t, refl, means t Greater is)
@@ -54,10 +54,10 @@ suffix_maybe n e t rest to is pos (m2, (after, le, (m3, sd, ed)), eq) =
     subst (λ (x : List Token). Takes (suffixed n e) (t ∷ rest) x) eq
     (Maybe ∷ after, less_pred (length after) n pos le, (m3, (rest, (t, refl, means t Question is), sd), ed))
 
-suffix_end : (n : ℕ) (e : Ending) (s : Symbol) (t : Token) (rest to : List Token) → symbol t ≡ s → Behind (ends e s) rest to → Takes (suffixed n e) (t ∷ rest) to
+suffix_end : (n : ℕ) (e : Ending) (s : Symbol) (t : Token) (rest to : List Token) → symbol t ≡ s → Following (ends e s) rest to → Takes (suffixed n e) (t ∷ rest) to
 suffix_end n e s t rest to is d = ([], omega arith, (t ∷ rest, refl, ends_mark t e s rest to is d))
 
-suffix_built : (n : ℕ) (e : Ending) (s : Symbol) (t : Token) (rest to : List Token) → symbol t ≡ s → Behind (suffix_begins n e s) rest to → Takes (suffixed n e) (t ∷ rest) to
+suffix_built : (n : ℕ) (e : Ending) (s : Symbol) (t : Token) (rest to : List Token) → symbol t ≡ s → Following (suffix_begins n e s) rest to → Takes (suffixed n e) (t ∷ rest) to
 suffix_built n e OpenBracket t rest to is d = let r = was_allowed (nat_lt 0 n) _ rest to d in suffix_array n e t rest to is (ltb-true 0 n r.0) r.1
 suffix_built n e Question t rest to is d = let r = was_allowed (nat_lt 0 n) _ rest to d in suffix_maybe n e t rest to is (ltb-true 0 n r.0) r.1
 suffix_built n e s t rest to is d = suffix_end n e s t rest to is d
@@ -101,16 +101,16 @@ based_name room e t rest to is (m, (ws, inner, after, le, (m1, wd, (m2, ad, more
     (Named (joined (t.text ∷ ws)) inner, after, t.place, le, (m2, (t, rest, refl, refl, (m1, (t.text, ws, refl, (rest, (t, refl, (means t Word is, refl)), wd)), ad)), more))
 
 based_unique : (room : ℕ) (e : Ending) (t : Token) (rest to : List Token) → symbol t ≡ UniquePtr → 0 < room → TakeAll (take Less ∷ typed (room - 1) ending.Greater ∷ suffixed 4 e ∷ []) rest to → Takes (based room e) (t ∷ rest) to
-based_unique room e t rest to is pos (m1, (u, ue, us), (m2, (nullable, b, behind_it, place, (m3, td, gd)), (m4, (after, le, more), eq))) =
+based_unique room e t rest to is pos (m1, (u, ue, us), (m2, (nullable, b, after_it, place, (m3, td, gd)), (m4, (after, le, more), eq))) =
     subst (λ (x : List Token). Takes (based room e) (t ∷ rest) x) eq (
-      Unique' some_box nullable b behind_it place,
+      Unique' some_box nullable b after_it place,
       after,
       t.place,
       le,
       (m2, (t, rest, refl, refl, (pos, (rest, (t, refl, means t UniquePtr is), (m1, (u, ue, means u Less us), (m3, td, gd))))), more),
     )
 
-base_built : (room : ℕ) (e : Ending) (s : Symbol) (t : Token) (rest to : List Token) → symbol t ≡ s → Behind (base_begins room e s) rest to → Takes (based room e) (t ∷ rest) to
+base_built : (room : ℕ) (e : Ending) (s : Symbol) (t : Token) (rest to : List Token) → symbol t ≡ s → Following (base_begins room e s) rest to → Takes (based room e) (t ∷ rest) to
 base_built room e Word t rest to is d = based_name room e t rest to is d
 base_built room e UniquePtr t rest to is d = let r = was_allowed (nat_lt 0 room) _ rest to d in based_unique room e t rest to is (ltb-true 0 room r.0) r.1
 base_built room e _ t rest to is d = absurd d
@@ -123,7 +123,7 @@ typed_nullable room e t rest to is (m, (b, after, place, le, (m2, bd, (m3, sd, e
     subst (λ (x : List Token). Takes (typed room e) (t ∷ rest) x) eq
     (true, b, after, place, (m3, (le, (rest, (t, refl, means t Nullable is), (m2, bd, sd))), ed))
 
-type_built : (room : ℕ) (e : Ending) (s : Symbol) (t : Token) (rest to : List Token) → symbol t ≡ s → Behind (type_begins room e s) rest to → Takes (typed room e) (t ∷ rest) to
+type_built : (room : ℕ) (e : Ending) (s : Symbol) (t : Token) (rest to : List Token) → symbol t ≡ s → Following (type_begins room e s) rest to → Takes (typed room e) (t ∷ rest) to
 type_built room e Nullable t rest to is d = typed_nullable room e t rest to is d
 type_built room e s t rest to is d = typed_of_based room e (t ∷ rest) to (base_built room e s t rest to is d)
 
@@ -136,18 +136,18 @@ built_attributed Word t rest to is (m, (v, more, (m1, vd, md)), eq) =
     (record { name = t.text; value = v; place = t.place }, more, (m1, (rest, (t, refl, (means t Word is, refl, refl)), vd), md))
 built_attributed _ t rest to is d = absurd d
 
-built_behind_attribute : (s : Symbol) → Builds behind_attribute s
+built_after_attribute : (s : Symbol) → Builds after_attribute s
 unfolding production
-built_behind_attribute Equals t rest to is (m, (u, ue, uk), (m2, (more, (m3, md, cd)), eq)) =
-    subst (λ (x : List Token). Takes behind_attribute (t ∷ rest) x) eq
+built_after_attribute Equals t rest to is (m, (u, ue, uk), (m2, (more, (m3, md, cd)), eq)) =
+    subst (λ (x : List Token). Takes after_attribute (t ∷ rest) x) eq
     (Some u.text, more, (m, (rest, (t, refl, means t Equals is), (u, ue, (uk, refl))), (m3, md, cd)))
-built_behind_attribute Comma t rest to is (m, (a, more, (m1, ad, (m2, md, cd))), eq) =
-    subst (λ (x : List Token). Takes behind_attribute (t ∷ rest) x) eq
+built_after_attribute Comma t rest to is (m, (a, more, (m1, ad, (m2, md, cd))), eq) =
+    subst (λ (x : List Token). Takes after_attribute (t ∷ rest) x) eq
     (None, a ∷ more, (t ∷ rest, refl, (m2, (rest, (t, refl, means t Comma is), (m1, ad, md)), cd)))
-built_behind_attribute CloseBracket t rest to is eq =
-    subst (λ (x : List Token). Takes behind_attribute (t ∷ rest) x) eq
+built_after_attribute CloseBracket t rest to is eq =
+    subst (λ (x : List Token). Takes after_attribute (t ∷ rest) x) eq
     (None, [], (t ∷ rest, refl, (t ∷ rest, refl, (t, refl, means t CloseBracket is))))
-built_behind_attribute _ t rest to is d = absurd d
+built_after_attribute _ t rest to is d = absurd d
 
 built_more_attributed : (s : Symbol) → Builds more_attributed s
 unfolding production
@@ -167,11 +167,11 @@ param_of list from middle to ad (nullable, b, after, place, (m, td, (u, ue, uk))
   (middle, ad, (m, td, (u, ue, (uk, refl, refl)))),
 )
 
--- attributes behind their bracket
+-- attributes after their bracket
 bracketed : (t : Token) (rest to : List Token) → symbol t ≡ OpenBracket → (d : Takes attributed rest to) → attributes (d.0 ∷ d.1) (t ∷ rest) to
 bracketed t rest to is (a, more, d) = (rest, (t, refl, means t OpenBracket is), d)
 
-param_built : (s : Symbol) (t : Token) (rest to : List Token) → symbol t ≡ s → Behind (param_begins s) rest to → Takes one_param (t ∷ rest) to
+param_built : (s : Symbol) (t : Token) (rest to : List Token) → symbol t ≡ s → Following (param_begins s) rest to → Takes one_param (t ∷ rest) to
 param_built OpenBracket t rest to is (m, ad, (m2, td, eq)) =
     subst (λ (x : List Token). Takes one_param (t ∷ rest) x) eq (param_of (ad.0 ∷ ad.1) (t ∷ rest) m m2 (bracketed t rest m is ad) td)
 param_built s t rest to is d = param_of [] (t ∷ rest) (t ∷ rest) to refl (type_built 4 ending.Name s t rest to is d)
@@ -185,7 +185,7 @@ unfolding production
 built_parameters CloseParen t rest to is eq =
     subst (λ (x : List Token). Takes parameters (t ∷ rest) x) eq ([], (t ∷ rest, refl, (t, refl, means t CloseParen is)))
 built_parameters s t rest to is d =
-    let r = behind_apart (param_begins s) (more_parameters ∷ []) rest to d in
+    let r = after_apart (param_begins s) (more_parameters ∷ []) rest to d in
     params_of (t ∷ rest) r.0 to (param_built s t rest r.0 is r.1) r.2
 
 built_more_parameters : (s : Symbol) → Builds more_parameters s
@@ -196,14 +196,14 @@ built_more_parameters CloseParen t rest to is eq =
     subst (λ (x : List Token). Takes more_parameters (t ∷ rest) x) eq ([], (t ∷ rest, refl, (t, refl, means t CloseParen is)))
 built_more_parameters _ t rest to is d = absurd d
 
-built_behind_parameters : (s : Symbol) → Builds behind_parameters s
+built_after_parameters : (s : Symbol) → Builds after_parameters s
 unfolding production
-built_behind_parameters Returns t rest to is (m, (u, ue, us), (m2, (ps, (m3, pd, cd)), (m4, (v, ve, vs), eq))) =
-    subst (λ (x : List Token). Takes behind_parameters (t ∷ rest) x) eq
+built_after_parameters Returns t rest to is (m, (u, ue, us), (m2, (ps, (m3, pd, cd)), (m4, (v, ve, vs), eq))) =
+    subst (λ (x : List Token). Takes after_parameters (t ∷ rest) x) eq
     (Some ps, (m2, (rest, (t, refl, means t Returns is), (m, (u, ue, means u OpenParen us), (m3, pd, cd))), (v, ve, means v Semicolon vs)))
-built_behind_parameters Semicolon t rest to is eq =
-    subst (λ (x : List Token). Takes behind_parameters (t ∷ rest) x) eq (None, (t ∷ rest, refl, (t, refl, means t Semicolon is)))
-built_behind_parameters _ t rest to is d = absurd d
+built_after_parameters Semicolon t rest to is eq =
+    subst (λ (x : List Token). Takes after_parameters (t ∷ rest) x) eq (None, (t ∷ rest, refl, (t, refl, means t Semicolon is)))
+built_after_parameters _ t rest to is d = absurd d
 
 -- messages and sections
 
@@ -229,7 +229,7 @@ section_of d t rest to wd (m, (u, ue, us), (m2, (ms, ss, (m3, msd, (m4, sd, cd))
     subst (λ (x : List Token). Sectioned (t ∷ rest) x) eq
     (record { direction = d; messages = ms } ∷ ss, (m4, (m3, (rest, wd, (m, (u, ue, means u Colon us), msd)), sd), cd))
 
-section_built : (s : Symbol) (t : Token) (rest to : List Token) → symbol t ≡ s → Behind (section_begins s) rest to → Sectioned (t ∷ rest) to
+section_built : (s : Symbol) (t : Token) (rest to : List Token) → symbol t ≡ s → Following (section_begins s) rest to → Sectioned (t ∷ rest) to
 section_built Parent t rest to is d = section_of direction.Parent t rest to (t, refl, means t Parent is) d
 section_built Child t rest to is d = section_of direction.Child t rest to (t, refl, means t Child is) d
 section_built Both t rest to is d = section_of direction.Both t rest to (t, refl, means t Both is) d
@@ -237,29 +237,29 @@ section_built CloseBrace t rest to is d = ([], (t ∷ rest, refl, closed_of t re
 section_built _ t rest to is d = absurd d
 
 -- a message with these attributes, before other messages
-message_of : (list : List Attribute) (d : Direction) (from middle behind_it to : List Token) → attributes list from middle → Takes one_message middle behind_it → Takes (messaged d) behind_it to → Takes (messaged d) from to
-message_of list d from middle behind_it to ad (how, name, place, ps, answers, md) (ms, ss, (m1, msd, more)) = (
+message_of : (list : List Attribute) (d : Direction) (from middle after_it to : List Token) → attributes list from middle → Takes one_message middle after_it → Takes (messaged d) after_it to → Takes (messaged d) from to
+message_of list d from middle after_it to ad (how, name, place, ps, answers, md) (ms, ss, (m1, msd, more)) = (
   record { name = name; place = place; direction = d; semantics = how; params = ps; returns = answers; attributes = list } ∷ ms,
   ss,
-  (m1, (behind_it, (refl, (middle, ad, md)), msd), more),
+  (m1, (after_it, (refl, (middle, ad, md)), msd), more),
 )
 
-message_behind : (d : Direction) (t : Token) (rest to : List Token) → symbol t ≡ OpenBracket → TakeAll (attributed ∷ one_message ∷ messaged d ∷ []) rest to → Takes (messaged d) (t ∷ rest) to
-message_behind d t rest to is (m, ad, (m1, od, (m2, md, eq))) =
+message_after : (d : Direction) (t : Token) (rest to : List Token) → symbol t ≡ OpenBracket → TakeAll (attributed ∷ one_message ∷ messaged d ∷ []) rest to → Takes (messaged d) (t ∷ rest) to
+message_after d t rest to is (m, ad, (m1, od, (m2, md, eq))) =
     subst (λ (x : List Token). Takes (messaged d) (t ∷ rest) x) eq
     (message_of (ad.0 ∷ ad.1) d (t ∷ rest) m m1 m2 (bracketed t rest m is ad) od md)
 
-message_ahead : (d : Direction) (s : Symbol) (t : Token) (rest to : List Token) → symbol t ≡ s → ((behind_it : List Token) → TakeAll (take Word ∷ take OpenParen ∷ parameters ∷ behind_parameters ∷ []) rest behind_it → Takes one_message (t ∷ rest) behind_it) →
-    TakeAll (take Word ∷ take OpenParen ∷ parameters ∷ behind_parameters ∷ messaged d ∷ []) rest to → Takes (messaged d) (t ∷ rest) to
+message_ahead : (d : Direction) (s : Symbol) (t : Token) (rest to : List Token) → symbol t ≡ s → ((after_it : List Token) → TakeAll (take Word ∷ take OpenParen ∷ parameters ∷ after_parameters ∷ []) rest after_it → Takes one_message (t ∷ rest) after_it) →
+    TakeAll (take Word ∷ take OpenParen ∷ parameters ∷ after_parameters ∷ messaged d ∷ []) rest to → Takes (messaged d) (t ∷ rest) to
 message_ahead d s t rest to is one (m1, a, (m2, b, (m3, c, (m4, e, (m5, md, eq))))) =
     subst (λ (x : List Token). Takes (messaged d) (t ∷ rest) x) eq
     (message_of [] d (t ∷ rest) (t ∷ rest) m4 m5 refl (one m4 (m1, a, (m2, b, (m3, c, (m4, e, refl))))) md)
 
 built_messaged : (d : Direction) (s : Symbol) → Builds (messaged d) s
 unfolding production
-built_messaged d OpenBracket t rest to is h = message_behind d t rest to is h
-built_messaged d Async t rest to is h = message_ahead d Async t rest to is (λ (x : List Token) (z : TakeAll (take Word ∷ take OpenParen ∷ parameters ∷ behind_parameters ∷ []) rest x). built_one_message Async t rest x is z) h
-built_messaged d Sync t rest to is h = message_ahead d Sync t rest to is (λ (x : List Token) (z : TakeAll (take Word ∷ take OpenParen ∷ parameters ∷ behind_parameters ∷ []) rest x). built_one_message Sync t rest x is z) h
+built_messaged d OpenBracket t rest to is h = message_after d t rest to is h
+built_messaged d Async t rest to is h = message_ahead d Async t rest to is (λ (x : List Token) (z : TakeAll (take Word ∷ take OpenParen ∷ parameters ∷ after_parameters ∷ []) rest x). built_one_message Async t rest x is z) h
+built_messaged d Sync t rest to is h = message_ahead d Sync t rest to is (λ (x : List Token) (z : TakeAll (take Word ∷ take OpenParen ∷ parameters ∷ after_parameters ∷ []) rest x). built_one_message Sync t rest x is z) h
 built_messaged d s t rest to is h = let r = section_built s t rest to is h in ([], r.0, (t ∷ rest, refl, r.1))
 
 -- protocols
@@ -302,7 +302,7 @@ built_fielded : (s : Symbol) → Builds fielded s
 unfolding production
 built_fielded CloseBrace t rest to is d = ([], (t ∷ rest, refl, closed_of t rest to is d))
 built_fielded s t rest to is d =
-    let r = behind_apart (type_begins 4 ending.Name s) (take Semicolon ∷ fielded ∷ []) rest to d in
+    let r = after_apart (type_begins 4 ending.Name s) (take Semicolon ∷ fielded ∷ []) rest to d in
     field_of (t ∷ rest) r.0 to (type_built 4 ending.Name s t rest r.0 is r.1) r.2
 
 component_of : (from middle to : List Token) → Takes (typed 4 ending.Semicolon) from middle → TakeAll (componented ∷ []) middle to → Takes componented from to
@@ -314,23 +314,23 @@ built_componented : (s : Symbol) → Builds componented s
 unfolding production
 built_componented CloseBrace t rest to is d = ([], (t ∷ rest, refl, closed_of t rest to is d))
 built_componented s t rest to is d =
-    let r = behind_apart (type_begins 4 ending.Semicolon s) (componented ∷ []) rest to d in
+    let r = after_apart (type_begins 4 ending.Semicolon s) (componented ∷ []) rest to d in
     component_of (t ∷ rest) r.0 to (type_built 4 ending.Semicolon s t rest r.0 is r.1) r.2
 
 -- usings and includes
 
-built_behind_using : (s : Symbol) → Builds behind_using s
+built_after_using : (s : Symbol) → Builds after_using s
 unfolding production
-built_behind_using Colons t rest to is (m, (u, ue, us), (m2, (ws, inner, (m3, wd, more)), eq)) =
-    subst (λ (x : List Token). Takes behind_using (t ∷ rest) x) eq
+built_after_using Colons t rest to is (m, (u, ue, us), (m2, (ws, inner, (m3, wd, more)), eq)) =
+    subst (λ (x : List Token). Takes after_using (t ∷ rest) x) eq
     (u.text ∷ ws, inner, (m3, (rest, (t, refl, means t Colons is), (m, (u, ue, (means u Word us, refl)), wd)), more))
-built_behind_using Less t rest to is (m, (name, (m1, qd, gd)), (m2, (f, fe, fs), (m3, (q, qe, qs), (m4, (v, ve, vs), eq)))) =
-    subst (λ (x : List Token). Takes behind_using (t ∷ rest) x) eq
+built_after_using Less t rest to is (m, (name, (m1, qd, gd)), (m2, (f, fe, fs), (m3, (q, qe, qs), (m4, (v, ve, vs), eq)))) =
+    subst (λ (x : List Token). Takes after_using (t ∷ rest) x) eq
     ([], Some name, (t ∷ rest, refl, (m, (rest, (t, refl, means t Less is), (m1, qd, gd)), (m2, (f, fe, means f From fs), (m3, (q, qe, means q Quoted qs), (v, ve, means v Semicolon vs))))))
-built_behind_using From t rest to is (m3, (q, qe, qs), (m4, (v, ve, vs), eq)) =
-    subst (λ (x : List Token). Takes behind_using (t ∷ rest) x) eq
+built_after_using From t rest to is (m3, (q, qe, qs), (m4, (v, ve, vs), eq)) =
+    subst (λ (x : List Token). Takes after_using (t ∷ rest) x) eq
     ([], None, (t ∷ rest, refl, (t ∷ rest, refl, (rest, (t, refl, means t From is), (m3, (q, qe, means q Quoted qs), (v, ve, means v Semicolon vs))))))
-built_behind_using _ t rest to is d = absurd d
+built_after_using _ t rest to is d = absurd d
 
 built_using_word : (s : Symbol) → Builds using_word s
 unfolding production
@@ -436,7 +436,7 @@ built_take UniquePtr UniquePtr t rest to is eq = subst (λ (x : List Token). Tak
 built_take Using Using t rest to is eq = subst (λ (x : List Token). Takes (take Using) (t ∷ rest) x) eq (t, refl, is)
 built_take _ _ t rest to is d = absurd d
 
--- What a form's production takes behind a first token makes what the form takes.
+-- A first token and the tokens that a form's production takes are tokens that the form takes.
 pub built : (f : Form) (s : Symbol) → Builds f s
 unfolding production
 built (take x) s = built_take x s
@@ -448,12 +448,12 @@ built (named e) s = built_named e s
 built (based room e) s = λ t rest to is d. base_built room e s t rest to is d
 built (typed room e) s = λ t rest to is d. type_built room e s t rest to is d
 built attributed s = built_attributed s
-built behind_attribute s = built_behind_attribute s
+built after_attribute s = built_after_attribute s
 built more_attributed s = built_more_attributed s
 built one_param s = λ t rest to is d. param_built s t rest to is d
 built parameters s = built_parameters s
 built more_parameters s = built_more_parameters s
-built behind_parameters s = built_behind_parameters s
+built after_parameters s = built_after_parameters s
 built one_message s = built_one_message s
 built (messaged d) s = built_messaged d s
 built managing s = built_managing s
@@ -462,5 +462,5 @@ built fielded s = built_fielded s
 built componented s = built_componented s
 built using_named s = built_using_named s
 built using_word s = built_using_word s
-built behind_using s = built_behind_using s
+built after_using s = built_after_using s
 built include_named s = built_include_named s

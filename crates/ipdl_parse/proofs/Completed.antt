@@ -9,7 +9,7 @@ use Rattle.tree_reader.specs.Ending as ending
 use Rattle.tree_reader.specs.declared.symbol.Symbol.{Symbol}
 use Rattle.tree_reader.specs.declared.symbol.Symbol.TheVariants.{End, Word, Quoted, OtherWord, OtherMark, Colons, OpenBrace, CloseBrace, OpenParen, CloseParen, OpenBracket, CloseBracket, Less, Greater, Semicolon, Comma, Colon, Equals, Question, Async, Both, Child, Class, From, Include, Manager, Manages, Namespace, Nullable, Or, Parent, Protocol, Returns, Struct, Sync, Union, UniquePtr, Using}
 use Rattle.tree_reader.specs.Symbols.{symbol, mark_symbol, word_symbol}
-use Rattle.tree_reader.specs.Machine.{Form, proper, take, any_word, argument_name, argument_words, suffixed, named, based, typed, attributed, behind_attribute, more_attributed, one_param, parameters, more_parameters, behind_parameters, one_message, messaged, managing, more_managing, fielded, componented, using_named, using_word, behind_using, include_named, FileState, stand, stepped, step, gone_at, refusal, production}
+use Rattle.tree_reader.specs.Machine.{Form, proper, take, any_word, argument_name, argument_words, suffixed, named, based, typed, attributed, after_attribute, more_attributed, one_param, parameters, more_parameters, after_parameters, one_message, messaged, managing, more_managing, fielded, componented, using_named, using_word, after_using, include_named, FileState, stand, stepped, step, gone_at, refusal, production}
 
 -- a token with a symbol
 abbrev of_kind : TokenKind → List ℕ → Token
@@ -115,12 +115,12 @@ completion (named e) = last e ∷ []
 completion (based room e) = Word ∷ last e ∷ []
 completion (typed room e) = Word ∷ last e ∷ []
 completion attributed = Word ∷ CloseBracket ∷ []
-completion behind_attribute = CloseBracket ∷ []
+completion after_attribute = CloseBracket ∷ []
 completion more_attributed = CloseBracket ∷ []
 completion one_param = Word ∷ Word ∷ []
 completion parameters = CloseParen ∷ []
 completion more_parameters = CloseParen ∷ []
-completion behind_parameters = Semicolon ∷ []
+completion after_parameters = Semicolon ∷ []
 completion one_message = Async ∷ Word ∷ OpenParen ∷ CloseParen ∷ Semicolon ∷ []
 completion (messaged d) = CloseBrace ∷ Semicolon ∷ []
 completion managing = CloseBrace ∷ Semicolon ∷ []
@@ -129,10 +129,10 @@ completion fielded = CloseBrace ∷ Semicolon ∷ []
 completion componented = CloseBrace ∷ Semicolon ∷ []
 completion using_named = Word ∷ From ∷ Quoted ∷ Semicolon ∷ []
 completion using_word = Word ∷ From ∷ Quoted ∷ Semicolon ∷ []
-completion behind_using = From ∷ Quoted ∷ Semicolon ∷ []
+completion after_using = From ∷ Quoted ∷ Semicolon ∷ []
 completion include_named = Word ∷ Semicolon ∷ []
 
--- a form is completed: the machine takes the tokens, and stands behind it
+-- a form is completed: the machine takes the tokens, and is then after the form
 abbrev Completes : Form → Type 0
 Completes f = (forms : List Form) (at : FileState) (rest : List Token) → refusal (f ∷ forms) at (tokens_of (completion f) ++ rest) ≡ refusal forms at rest
 
@@ -212,12 +212,12 @@ completes any_word = λ forms at rest. refl
 completes argument_name = λ forms at rest. refl
 completes argument_words = λ forms at rest. refl
 completes attributed = λ forms at rest. refl
-completes behind_attribute = λ forms at rest. refl
+completes after_attribute = λ forms at rest. refl
 completes more_attributed = λ forms at rest. refl
 completes one_param = λ forms at rest. refl
 completes parameters = λ forms at rest. refl
 completes more_parameters = λ forms at rest. refl
-completes behind_parameters = λ forms at rest. refl
+completes after_parameters = λ forms at rest. refl
 completes one_message = λ forms at rest. refl
 completes managing = λ forms at rest. refl
 completes more_managing = λ forms at rest. refl
@@ -225,11 +225,11 @@ completes fielded = λ forms at rest. refl
 completes componented = λ forms at rest. refl
 completes using_named = λ forms at rest. refl
 completes using_word = λ forms at rest. refl
-completes behind_using = λ forms at rest. refl
+completes after_using = λ forms at rest. refl
 completes include_named = λ forms at rest. refl
 completes (messaged d) = λ forms at rest. refl
 
--- what completes forms, one behind the other
+-- what completes forms, one after the other
 abbrev completions : List Form → List Token
 completions [] = []
 completions (f ∷ fs) = tokens_of (completion f) ++ completions fs
@@ -240,7 +240,7 @@ all_complete (f ∷ fs) at rest =
     ap (λ (x : List Token). refusal (f ∷ fs) at x) (append_assoc (tokens_of (completion f)) (completions fs) rest)
     ∙ completes f fs at (completions fs ++ rest) ∙ all_complete fs at rest
 
--- the ends of so many namespaces
+-- the ends of this number of namespaces
 abbrev closings : ℕ → List Token
 closings zero = []
 closings (suc n) = token_of CloseBrace ∷ closings n
@@ -266,7 +266,7 @@ unfolding refusal production step mark_symbol word_symbol
 protocols_complete true n = closings_complete n
 protocols_complete false n = closings_complete n
 
--- a struct, where attributes have stood
+-- a struct, if attributes came before
 abbrev structs : Bool → List Token
 structs true = tokens_of (Struct ∷ Word ∷ OpenBrace ∷ CloseBrace ∷ Semicolon ∷ [])
 structs false = []
@@ -276,7 +276,7 @@ unfolding refusal production step mark_symbol word_symbol
 structs_complete may true n = protocols_complete may n
 structs_complete may false n = protocols_complete may n
 
--- what completes where a file stands
+-- what completes a file in this state
 abbrev file_completion : FileState → List Token
 file_completion (stand may n headed) = structs headed ++ (protocols may ++ closings n)
 

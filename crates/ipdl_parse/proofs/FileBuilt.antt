@@ -1,4 +1,4 @@
--- Behind a first word of a declaration, what is left behind its step makes what is left before it.
+-- A first word of a declaration and what is left after its step are what is left before it.
 use Rattle.std.proofs.Common.{◌≡◌, ℕ, zero, suc, ◌+◌, ◌-◌, ◌<◌, inl, inr, Bool, true, false, List, [], ◌∷◌, codes, refl, sym, subst, arith}
 use Rattle.std.specs.Prelude.{nat_lt, ◌==◌}
 use Rattle.ipdl_base.specs.declared.kinds.Semantics.{Semantics}
@@ -15,13 +15,13 @@ use Rattle.tree_reader.specs.Machine.{take, typed, attributed, managing, fielded
 use Rattle.std.specs.List.{flat_map}
 use Rattle.std.proofs.Common.{add-one}
 use Rattle.std.proofs.lemmas.Bool.{ltb-true}
-use Rattle.ipdl_parse.proofs.Files.{Rest, Headed, headed_struct, headed_union, headed_using, headed_protocol, FileRest, Whole, BehindAt, was_stepped, cons_include, cons_namespace, cons_close, attach}
+use Rattle.ipdl_parse.proofs.Files.{Rest, Headed, headed_struct, headed_union, headed_using, headed_protocol, FileRest, Whole, AfterAt, was_stepped, cons_include, cons_namespace, cons_close, attach}
 use Rattle.tree_reader.proofs.Symbols.{means}
 
 eq-eqb-zero : (d : ℕ) → (d == 0) ≡ true → d ≡ 0
 eq-eqb-zero d h = grind arith
 
--- a declaration behind its attributes
+-- a declaration after its attributes
 
 struct_headed : (may : Bool) (d : ℕ) (t : Token) (rest : List Token) → symbol t ≡ Struct → Whole (take Word ∷ take OpenBrace ∷ fielded ∷ []) (stand may d false) rest → Headed may d (t ∷ rest)
 struct_headed may d t rest is (m, (m1, (u, ue, us), (m2, (v, ve, vs), (m3, (fs, (m4, fd, cd)), eq))), r) =
@@ -52,7 +52,7 @@ semantics_headed : (may : Bool) (d : ℕ) (how : Semantics) (from rest : List To
 semantics_headed may d how from rest still sd (m, (m1, (u, ue, us), more), r) =
     protocol_headed may d how from m1 still (rest, sd, (u, ue, means u Protocol us)) (m, more, r)
 
-headed_built : (may : Bool) (d : ℕ) (s : Symbol) (t : Token) (rest : List Token) → symbol t ≡ s → BehindAt (step (stand may d true) s) rest → Headed may d (t ∷ rest)
+headed_built : (may : Bool) (d : ℕ) (s : Symbol) (t : Token) (rest : List Token) → symbol t ≡ s → AfterAt (step (stand may d true) s) rest → Headed may d (t ∷ rest)
 unfolding step
 headed_built may d Struct t rest is h = struct_headed may d t rest is h
 headed_built may d Union t rest is h = union_headed may d t rest is h
@@ -62,10 +62,10 @@ headed_built may d Async t rest is h = let r = was_stepped may _ _ rest h in sem
 headed_built may d Sync t rest is h = let r = was_stepped may _ _ rest h in semantics_headed may d semantics.Sync (t ∷ rest) rest r.0 (t, refl, means t Sync is) r.1
 headed_built may d _ t rest is h = absurd h
 
-bare_built : (may : Bool) (d : ℕ) (s : Symbol) (t : Token) (rest : List Token) → symbol t ≡ s → BehindAt (step (stand may d true) s) rest → Rest may d (t ∷ rest)
+bare_built : (may : Bool) (d : ℕ) (s : Symbol) (t : Token) (rest : List Token) → symbol t ≡ s → AfterAt (step (stand may d true) s) rest → Rest may d (t ∷ rest)
 bare_built may d s t rest is h = attach may d [] (t ∷ rest) (t ∷ rest) refl (headed_built may d s t rest is h)
 
--- attributes, and a declaration behind them
+-- attributes, and a declaration after them
 bracket_built : (may : Bool) (d : ℕ) (t : Token) (rest : List Token) → symbol t ≡ OpenBracket → Whole (attributed ∷ []) (stand may d true) rest → Rest may d (t ∷ rest)
 bracket_built may d t rest is (m, (m1, (a, more, ad), eq), h) =
     attach may d (a ∷ more) (t ∷ rest) m1 (rest, (t, refl, means t OpenBracket is), ad) (subst (λ (x : List Token). Headed may d x) (sym eq) h)
@@ -78,7 +78,7 @@ include_built may d t rest is z (m, (m1, (what, name, place, (m2, wd, sd)), eq),
 namespace_built : (may : Bool) (d : ℕ) (t : Token) (rest : List Token) → symbol t ≡ Namespace → d < 16 → Whole (take Word ∷ take OpenBrace ∷ []) (stand may (d + 1) false) rest → Rest may d (t ∷ rest)
 namespace_built may d t rest is lt (m, (m1, (u, ue, us), (m2, (v, ve, vs), eq)), r) =
     cons_namespace may d u.text (t ∷ rest) m2 lt
-    (record { behind_word = rest; behind_name = m1; keyword = (t, refl, means t Namespace is); name_there = (u, ue, (means u Word us, refl)); brace = (v, ve, means v OpenBrace vs) })
+    (record { after_word = rest; after_name = m1; keyword = (t, refl, means t Namespace is); name_there = (u, ue, (means u Word us, refl)); brace = (v, ve, means v OpenBrace vs) })
     (subst (λ (n : ℕ). Rest may n m2) (add-one d) (subst (λ (x : List Token). Rest may (d + 1) x) (sym eq) r))
 
 close_built : (may : Bool) (d : ℕ) (t : Token) (rest : List Token) → symbol t ≡ CloseBrace → 0 < d → Whole [] (stand may (d - 1) false) rest → Rest may d (t ∷ rest)
@@ -88,8 +88,8 @@ close_built may (suc n) t rest is pos (m, eq, r) =
     cons_close may n (t ∷ rest) rest (t, refl, means t CloseBrace is)
     (subst (λ (k : ℕ). Rest may k rest) e (subst (λ (x : List Token). Rest may (suc n - 1) x) (sym eq) r))
 
--- What is left behind the step of a first token makes what is left before it.
-pub file_built : (at : FileState) (s : Symbol) (t : Token) (rest : List Token) → symbol t ≡ s → BehindAt (step at s) rest → FileRest at (t ∷ rest)
+-- A first token and what is left after its step are what is left before it.
+pub file_built : (at : FileState) (s : Symbol) (t : Token) (rest : List Token) → symbol t ≡ s → AfterAt (step at s) rest → FileRest at (t ∷ rest)
 unfolding step
 file_built (stand may d true) s t rest is h = headed_built may d s t rest is h
 file_built (stand may d false) OpenBracket t rest is h = bracket_built may d t rest is h

@@ -1,4 +1,4 @@
--- What is left of a file is nothing, or begins with a token that has a step, behind which the rest is left.
+-- What is left of a file is nothing, or begins with a token that has a step, and the rest is left after it.
 use Rattle.std.proofs.Common.{◌≡◌, ◌≢◌, ℕ, zero, suc, ◌-◌, ◌<◌, ◌⊎◌, inl, inr, Bool, true, false, List, [], ◌∷◌, codes, refl, sym, subst, ◌∙◌, arith}
 use Rattle.std.specs.Prelude.{nat_lt, ◌==◌}
 use Rattle.ipdl_base.specs.declared.finding.Place.{Place}
@@ -21,22 +21,22 @@ use Rattle.ipdl_syntax.specs.declared.tree.StructDecl.{StructDecl}
 use Rattle.ipdl_syntax.specs.declared.tree.UnionDecl.{UnionDecl}
 use Rattle.ipdl_syntax.specs.declared.tree.Using.{Using as UsingDecl}
 use Rattle.ipdl_parse.proofs.Meaning.{closed}
-use Rattle.ipdl_parse.proofs.Files.{ClosedRest, OpenRest, Rest, Headed, headed_struct, headed_union, headed_using, headed_protocol, FileRest, Whole, BehindAt, steps, rescoped, rescoped_holder}
+use Rattle.ipdl_parse.proofs.Files.{ClosedRest, OpenRest, Rest, Headed, headed_struct, headed_union, headed_using, headed_protocol, FileRest, Whole, AfterAt, steps, rescoped, rescoped_holder}
 use Rattle.tree_reader.proofs.Symbols.{is_word, is_open_brace, is_close_brace, is_open_bracket, is_async, is_include, is_namespace, is_protocol, is_struct, is_sync, is_union, is_using}
 
 abbrev pub Begins : FileState → List Token → Type 0
-Begins at from = (t : Token) × (rest : List Token) × (from ≡ t ∷ rest) × BehindAt (step at (symbol t)) rest
+Begins at from = (t : Token) × (rest : List Token) × (from ≡ t ∷ rest) × AfterAt (step at (symbol t)) rest
 
 abbrev pub FileOpened : FileState → List Token → Type 0
 FileOpened at from = ((from ≡ []) × (is_end [] at ≡ true)) ⊎ Begins at from
 
-begin_by : (at : FileState) (s : Symbol) (from : List Token) (t : Token) (rest : List Token) → from ≡ t ∷ rest → symbol t ≡ s → BehindAt (step at s) rest → Begins at from
-begin_by at s from t rest e is d = (t, rest, e, subst (λ (x : Symbol). BehindAt (step at x) rest) (sym is) d)
+begin_by : (at : FileState) (s : Symbol) (from : List Token) (t : Token) (rest : List Token) → from ≡ t ∷ rest → symbol t ≡ s → AfterAt (step at s) rest → Begins at from
+begin_by at s from t rest e is d = (t, rest, e, subst (λ (x : Symbol). AfterAt (step at x) rest) (sym is) d)
 
 is_zero : (d : ℕ) → d ≡ 0 → (d == 0) ≡ true
 is_zero d h = grind arith
 
--- a declaration behind its attributes
+-- a declaration after its attributes
 
 protocol_begins : (may : Bool) (d : ℕ) (how : Semantics) (from m0 m1 middle : List Token) → may ≡ true → protocol_semantics how from m0 → reserved (codes "protocol") m0 m1 →
     Whole (take Word ∷ take OpenBrace ∷ managing ∷ []) (stand false d false) m1 → Begins (stand may d true) from
@@ -67,7 +67,7 @@ headed_begins may d from (headed_using m s z (r1, (t, te, tk), ud) r) =
 headed_begins may d from (headed_protocol m p still (statements, parts, ma, mb, mc, (m0, sd, (m1, pd, (m2, (u, ue, uk), (m3, (v, ve, vk), md))))) r) =
     protocol_begins may d p.semantics from m0 m1 m still sd pd (m, (m2, (u, ue, is_word u uk.0), (m3, (v, ve, is_open_brace v vk), (m, (statements, parts, md), refl))), r)
 
-bare_table : (may : Bool) (d : ℕ) (s : Symbol) (rest : List Token) → BehindAt (step (stand may d true) s) rest → BehindAt (step (stand may d false) s) rest
+bare_table : (may : Bool) (d : ℕ) (s : Symbol) (rest : List Token) → AfterAt (step (stand may d true) s) rest → AfterAt (step (stand may d false) s) rest
 unfolding step
 bare_table may d OpenBracket rest h = absurd h
 bare_table may d Include rest h = absurd h
@@ -124,7 +124,7 @@ room_depth n h = omega arith
 one_less : (n : ℕ) → (15 - n) - 1 ≡ 15 - suc n
 one_less n = omega arith
 
--- what is left behind the protocol
+-- what is left after the protocol
 closed_opened : (d : ℕ) (from : List Token) → ClosedRest d from → FileOpened (stand false d false) from
 closed_opened zero from (outside_end, same) = inl (same, refl)
 closed_opened zero from (outside_include i x, (m, id, xd)) = inr (include_first false i from m id (x, xd))

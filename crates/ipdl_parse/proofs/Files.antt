@@ -1,4 +1,4 @@
--- What is left of a file where the machine stands between declarations, in the grammar's words.
+-- What is left of a file when the machine is between declarations, in terms of the grammar.
 use Rattle.std.proofs.Common.{◌≡◌, ◌≢◌, ℕ, zero, suc, ◌-◌, ◌<◌, ◌⊎◌, inl, inr, Bool, true, false, List, [], ◌∷◌, ◌++◌, Option, Some, None, codes, refl, sym, subst, arith}
 use Rattle.ipdl_base.specs.Words.{joined}
 use Rattle.ipdl_base.specs.declared.token.Token.{Token}
@@ -31,7 +31,7 @@ bare_protocol p from to =
     × (p.managers ≡ flat_map managers_of statements) × (p.manages ≡ flat_map managed_of statements) × (p.messages ≡ flat_map (λ s. s.messages) parts)
     × (protocol_semantics p.semantics ⨾ reserved (codes "protocol") ⨾ declared [] p.full p.place ⨾ mark (codes "{") ⨾ managements statements ⨾ sections parts ⨾ closed) from to
 
--- what is left behind the protocol, or in a header, where so many namespaces are inner
+-- what is left after the protocol, or of a header, inside this number of namespaces
 abbrev pub ClosedRest : ℕ → List Token → Type 0
 ClosedRest zero from = (x : Outside) × outside x from []
 ClosedRest (suc d) from = (x : Inside) × (middle : List Token) × (inside (15 - d) [] x ⨾ mark (codes "}")) from middle × ClosedRest d middle
@@ -41,14 +41,14 @@ abbrev pub OpenRest : ℕ → List Token → Type 0
 OpenRest zero from = (x : Outside) × (h : Holder) × (y : Outside) × protocol_file x h y from []
 OpenRest (suc d) from =
     (x : Inside) × (middle : List Token) × inside (15 - d) [] x from middle
-    × (((behind_it : List Token) × mark (codes "}") middle behind_it × OpenRest d behind_it)
-    ⊎ ((h : Holder) × (y : Inside) × (behind_it : List Token) × (holder (15 - d) [] h ⨾ inside (15 - d) [] y ⨾ mark (codes "}")) middle behind_it × ClosedRest d behind_it))
+    × (((after_it : List Token) × mark (codes "}") middle after_it × OpenRest d after_it)
+    ⊎ ((h : Holder) × (y : Inside) × (after_it : List Token) × (holder (15 - d) [] h ⨾ inside (15 - d) [] y ⨾ mark (codes "}")) middle after_it × ClosedRest d after_it))
 
 abbrev pub Rest : Bool → ℕ → List Token → Type 0
 Rest true d from = OpenRest d from
 Rest false d from = ClosedRest d from
 
--- a declaration that has attributes before it, without them, and what is left behind it
+-- a declaration that has attributes before it, without them, and what is left after it
 pub data Headed : Bool → ℕ → List Token → Type 0 where
   headed_struct : {may : Bool} {d : ℕ} {from : List Token} (middle : List Token) (s : StructDecl) → bare_struct s from middle → Rest may d middle → Headed may d from
   headed_union : {may : Bool} {d : ℕ} {from : List Token} (middle : List Token) (u : UnionDecl) → u.components ≢ [] → bare_union u from middle → Rest may d middle → Headed may d from
@@ -60,20 +60,20 @@ abbrev pub FileRest : FileState → List Token → Type 0
 FileRest (stand may d true) from = Headed may d from
 FileRest (stand may d false) from = Rest may d from
 
--- forms, and what is left behind them
+-- forms, and what is left after them
 abbrev pub Whole : List Form → FileState → List Token → Type 0
 Whole forms at from = (middle : List Token) × TakeAll forms from middle × FileRest at middle
 
--- what comes behind a first token
-abbrev pub BehindAt : Option (List Form × FileState) → List Token → Type 0
-BehindAt None rest = ⊥
-BehindAt (Some next) rest = Whole next.0 next.1 rest
+-- what follows a first token
+abbrev pub AfterAt : Option (List Form × FileState) → List Token → Type 0
+AfterAt None rest = ⊥
+AfterAt (Some next) rest = Whole next.0 next.1 rest
 
-pub was_stepped : (b : Bool) (forms : List Form) (to : FileState) (rest : List Token) → BehindAt (stepped b forms to) rest → (b ≡ true) × Whole forms to rest
+pub was_stepped : (b : Bool) (forms : List Form) (to : FileState) (rest : List Token) → AfterAt (stepped b forms to) rest → (b ≡ true) × Whole forms to rest
 was_stepped true forms to rest d = (refl, d)
 was_stepped false forms to rest d = absurd d
 
-pub steps : (b : Bool) (forms : List Form) (to : FileState) (rest : List Token) → b ≡ true → Whole forms to rest → BehindAt (stepped b forms to) rest
+pub steps : (b : Bool) (forms : List Form) (to : FileState) (rest : List Token) → b ≡ true → Whole forms to rest → AfterAt (stepped b forms to) rest
 steps true forms to rest e d = d
 steps false forms to rest e d = absurd (cc)
 
@@ -101,7 +101,7 @@ rescoped_holder room one other (holder_namespace name before held after) from to
     let a = rescoped (room - 1) (one ++ name ∷ []) (other ++ name ∷ []) after m6 m4 ad in
     (holder_namespace name b.0 h.0 a.0, (pos, (m1, nd, (m2, wd, (m3, od, (m4, (m5, b.1, (m6, h.1, a.1)), cd))))))
 
--- one declaration more before what is left
+-- one more declaration before what is left
 
 cons_struct : (may : Bool) (d : ℕ) (s : StructDecl) (from middle : List Token) → struct_decl [] s from middle → Rest may d middle → Rest may d from
 cons_struct true zero s from m sd (x, h, y, (m1, xd, more)) = (outside_struct s x, h, y, (m1, (m, sd, xd), more))
@@ -143,25 +143,25 @@ less_one n = omega arith
 room_left : (n : ℕ) → suc n < 16 → 0 < 15 - n
 room_left n h = omega arith
 
--- the begin of a namespace
+-- the beginning of a namespace
 pub record Opens (name : List ℕ) (from inner : List Token) : Type 0 where
-  pub behind_word : List Token
-  pub behind_name : List Token
-  pub keyword : reserved (codes "namespace") from behind_word
-  pub name_there : word name behind_word behind_name
-  pub brace : mark (codes "{") behind_name inner
+  pub after_word : List Token
+  pub after_name : List Token
+  pub keyword : reserved (codes "namespace") from after_word
+  pub name_there : word name after_word after_name
+  pub brace : mark (codes "{") after_name inner
 
--- a namespace opened at this depth, and what is left in it and behind it, is what is left before it
+-- a namespace opened at this depth, and what is left in it and after it, is what is left before it
 pub cons_namespace : (may : Bool) (d : ℕ) (name : List ℕ) (from inner : List Token) → d < 16 → Opens name from inner → Rest may (suc d) inner → Rest may d from
 cons_namespace false zero name from inner lt o (x, m2, (m1, xd, cd), (y, yd)) =
     let r = rescoped 15 [] (name ∷ []) x inner m1 xd in
-    (outside_namespace name r.0 y, (m2, (o.behind_word, o.keyword, (o.behind_name, o.name_there, (inner, o.brace, (m1, r.1, cd)))), yd))
+    (outside_namespace name r.0 y, (m2, (o.after_word, o.keyword, (o.after_name, o.name_there, (inner, o.brace, (m1, r.1, cd)))), yd))
 cons_namespace false (suc n) name from inner lt o (x, m2, (m1, xd, cd), (y, m4, (m3, yd, dd), more)) =
     let r = rescoped ((15 - n) - 1) [] (name ∷ []) x inner m1 (subst (λ (k : ℕ). inside k [] x inner m1) (less_one n) xd) in
-    (inside_namespace name r.0 y, m4, (m3, (m2, (room_left n lt, (o.behind_word, o.keyword, (o.behind_name, o.name_there, (inner, o.brace, (m1, r.1, cd))))), yd), dd), more)
+    (inside_namespace name r.0 y, m4, (m3, (m2, (room_left n lt, (o.after_word, o.keyword, (o.after_name, o.name_there, (inner, o.brace, (m1, r.1, cd))))), yd), dd), more)
 cons_namespace true zero name from inner lt o (x, m1, xd, inl (m2, cd, (y, h, z, (m3, yd, more)))) =
     let r = rescoped 15 [] (name ∷ []) x inner m1 xd in
-    (outside_namespace name r.0 y, h, z, (m3, (m2, (o.behind_word, o.keyword, (o.behind_name, o.name_there, (inner, o.brace, (m1, r.1, cd)))), yd), more))
+    (outside_namespace name r.0 y, h, z, (m3, (m2, (o.after_word, o.keyword, (o.after_name, o.name_there, (inner, o.brace, (m1, r.1, cd)))), yd), more))
 cons_namespace true zero name from inner lt o (x, m1, xd, inr (h, y, m2, (m3, hd, (m4, yd, cd)), (z, zd))) =
     let r = rescoped 15 [] (name ∷ []) x inner m1 xd in
     let g = rescoped_holder 15 [] (name ∷ []) h m1 m3 hd in
@@ -169,11 +169,11 @@ cons_namespace true zero name from inner lt o (x, m1, xd, inr (h, y, m2, (m3, hd
       outside_end,
       holder_namespace name r.0 g.0 s.0,
       z,
-      (from, refl, (m2, (lt, (o.behind_word, o.keyword, (o.behind_name, o.name_there, (inner, o.brace, (m4, (m1, r.1, (m3, g.1, s.1)), cd))))), zd)),
+      (from, refl, (m2, (lt, (o.after_word, o.keyword, (o.after_name, o.name_there, (inner, o.brace, (m4, (m1, r.1, (m3, g.1, s.1)), cd))))), zd)),
     )
 cons_namespace true (suc n) name from inner lt o (x, m1, xd, inl (m2, cd, (y, m3, yd, more))) =
     let r = rescoped ((15 - n) - 1) [] (name ∷ []) x inner m1 (subst (λ (k : ℕ). inside k [] x inner m1) (less_one n) xd) in
-    (inside_namespace name r.0 y, m3, (m2, (room_left n lt, (o.behind_word, o.keyword, (o.behind_name, o.name_there, (inner, o.brace, (m1, r.1, cd))))), yd), more)
+    (inside_namespace name r.0 y, m3, (m2, (room_left n lt, (o.after_word, o.keyword, (o.after_name, o.name_there, (inner, o.brace, (m1, r.1, cd))))), yd), more)
 cons_namespace true (suc n) name from inner lt o (x, m1, xd, inr (h, y, m2, (m3, hd, (m4, yd, cd)), (z, m5, zd, more))) =
     let r = rescoped ((15 - n) - 1) [] (name ∷ []) x inner m1 (subst (λ (k : ℕ). inside k [] x inner m1) (less_one n) xd) in
     let g = rescoped_holder ((15 - n) - 1) [] (name ∷ []) h m1 m3 (subst (λ (k : ℕ). holder k [] h m1 m3) (less_one n) hd) in
@@ -185,7 +185,7 @@ cons_namespace true (suc n) name from inner lt o (x, m1, xd, inr (h, y, m2, (m3,
         holder_namespace name r.0 g.0 s.0,
         z,
         m5,
-        (m2, (room_left n lt, (o.behind_word, o.keyword, (o.behind_name, o.name_there, (inner, o.brace, (m4, (m1, r.1, (m3, g.1, s.1)), cd))))), zd),
+        (m2, (room_left n lt, (o.after_word, o.keyword, (o.after_name, o.name_there, (inner, o.brace, (m4, (m1, r.1, (m3, g.1, s.1)), cd))))), zd),
         more,
       ),
     )

@@ -17,18 +17,18 @@ use Rattle.tree_reader.specs.declared.symbol.Symbol.{Symbol}
 use Rattle.tree_reader.specs.declared.symbol.Symbol.TheVariants.{End, Word, Quoted, OtherWord, OtherMark, Colons, OpenBrace, CloseBrace, OpenParen, CloseParen, OpenBracket, CloseBracket, Less, Greater, Semicolon, Comma, Colon, Equals, Question, Async, Both, Child, Class, From, Include, Manager, Manages, Namespace, Nullable, Or, Parent, Protocol, Returns, Struct, Sync, Union, UniquePtr, Using}
 use Rattle.tree_reader.specs.Symbols.{symbol}
 use Rattle.tree_reader.specs.Reading.{last}
-use Rattle.tree_reader.specs.Machine.{Form, proper, take, any_word, argument_name, argument_words, suffixed, named, based, typed, attributed, behind_attribute, more_attributed, one_param, parameters, more_parameters, behind_parameters, one_message, messaged, managing, more_managing, fielded, componented, using_named, using_word, behind_using, include_named, production, behind, suffix_begins, base_begins, type_begins, section_begins}
+use Rattle.tree_reader.specs.Machine.{Form, proper, take, any_word, argument_name, argument_words, suffixed, named, based, typed, attributed, after_attribute, more_attributed, one_param, parameters, more_parameters, after_parameters, one_message, messaged, managing, more_managing, fielded, componented, using_named, using_word, after_using, include_named, production, following, suffix_begins, base_begins, type_begins, section_begins}
 use Rattle.std.proofs.lemmas.Bool.{lt-ltb}
 use Rattle.tree_reader.proofs.Symbols.{is_word, is_quoted, is_colons, is_close_brace, is_open_paren, is_close_paren, is_open_bracket, is_close_bracket, is_less, is_greater, is_semicolon, is_comma, is_colon, is_equals, is_question, is_async, is_both, is_child, is_class, is_from, is_manager, is_manages, is_nullable, is_or, is_parent, is_protocol, is_returns, is_struct, is_sync, is_unique_ptr}
 use Rattle.tree_reader.proofs.Tokens.{any_word_table}
-use Rattle.ipdl_parse.proofs.Meaning.{ending_part, closed, Takes, Behind, Opened, behind_together, allowed}
+use Rattle.ipdl_parse.proofs.Meaning.{ending_part, closed, Takes, Following, Opened, after_together, allowed}
 
-open_by : (f : Form) (s : Symbol) (from to : List Token) (t : Token) (rest : List Token) → from ≡ t ∷ rest → symbol t ≡ s → Behind (production f s) rest to → Opened f from to
-open_by f s from to t rest e is d = (t, rest, e, subst (λ (x : Symbol). Behind (production f x) rest to) (sym is) d)
+open_by : (f : Form) (s : Symbol) (from to : List Token) (t : Token) (rest : List Token) → from ≡ t ∷ rest → symbol t ≡ s → Following (production f s) rest to → Opened f from to
+open_by f s from to t rest e is d = (t, rest, e, subst (λ (x : Symbol). Following (production f x) rest to) (sym is) d)
 
 -- the same where the production is that of another table
-open_as : (f : Form) (s : Symbol) (o : Option (List Form)) (from to : List Token) (t : Token) (rest : List Token) → from ≡ t ∷ rest → symbol t ≡ s → production f s ≡ o → Behind o rest to → Opened f from to
-open_as f s o from to t rest e is p d = open_by f s from to t rest e is (subst (λ (x : Option (List Form)). Behind x rest to) (sym p) d)
+open_as : (f : Form) (s : Symbol) (o : Option (List Form)) (from to : List Token) (t : Token) (rest : List Token) → from ≡ t ∷ rest → symbol t ≡ s → production f s ≡ o → Following o rest to → Opened f from to
+open_as f s o from to t rest e is p d = open_by f s from to t rest e is (subst (λ (x : Option (List Form)). Following x rest to) (sym p) d)
 
 last_is : (e : Ending) (from to : List Token) → ending_part e from to → (t : Token) × (from ≡ t ∷ to) × (symbol t ≡ last e)
 last_is ending.Name from to (t, te, k) = (t, te, is_word t k)
@@ -87,15 +87,15 @@ named_opened e from to ([], Some name, after, le, (m3, same, (m2, (r, (t, te, tk
 named_opened e from to ([], None, after, le, (m3, same, (m2, same', sd))) =
     suffix_opened (named e) 4 e from to refl refl (named_last e) (after, le, subst (λ (x : List Token). (suffixes after ⨾ ending_part e) x to) (sym (same ∙ same')) sd)
 
--- the same of a base: its first symbol, and what is behind it
+-- the same of a base: its first symbol, and what follows it
 base_opened : (f : Form) (room : ℕ) (e : Ending) (from to : List Token) → production f Word ≡ base_begins room e Word → production f UniquePtr ≡ base_begins room e UniquePtr → Takes (based room e) from to → Opened f from to
 base_opened f room e from to pw pu (Named name inner, after, place, le, (m2, (t0, r0, te0, pl, (m1, (first, ws, j, (r, (t, te, tk), wd)), ad)), more)) =
     open_as f Word (base_begins room e Word) from to t r te (is_word t tk.0) pw
     (to, (ws, inner, after, le, (m1, wd, (m2, ad, more))), refl)
-base_opened f room e from to pw pu (Unique' box nullable b behind_it inner_place, after, place, le, (m2, (t0, r0, te0, pl, (pos, (r, (t, te, tk), (m1, (u, ue, uk), (m3, td, gd))))), more)) =
+base_opened f room e from to pw pu (Unique' box nullable b after_it inner_place, after, place, le, (m2, (t0, r0, te0, pl, (pos, (r, (t, te, tk), (m1, (u, ue, uk), (m3, td, gd))))), more)) =
     open_as f UniquePtr (base_begins room e UniquePtr) from to t r te (is_unique_ptr t tk) pu
     (allowed (nat_lt 0 room) (take Less ∷ typed (room - 1) ending.Greater ∷ suffixed 4 e ∷ []) r to (lt-ltb 0 room pos)
-    (m1, (u, ue, is_less u uk), (m2, (nullable, b, behind_it, inner_place, (m3, td, gd)), (to, (after, le, more), refl))))
+    (m1, (u, ue, is_less u uk), (m2, (nullable, b, after_it, inner_place, (m3, td, gd)), (to, (after, le, more), refl))))
 
 opened_based : (room : ℕ) (e : Ending) (from to : List Token) → Takes (based room e) from to → Opened (based room e) from to
 unfolding production
@@ -124,14 +124,14 @@ opened_attributed : (from to : List Token) → Takes attributed from to → Open
 unfolding production
 opened_attributed from to (a, more, (m1, (r, (t, te, tk), vd), md)) = open_by attributed Word from to t r te (is_word t tk.0) (to, (a.value, more, (m1, vd, md)), refl)
 
-opened_behind_attribute : (from to : List Token) → Takes behind_attribute from to → Opened behind_attribute from to
+opened_after_attribute : (from to : List Token) → Takes after_attribute from to → Opened after_attribute from to
 unfolding production
-opened_behind_attribute from to (Some text, more, (m1, (r, (t, te, tk), (u, ue, uk)), md)) =
-    open_by behind_attribute Equals from to t r te (is_equals t tk) (m1, (u, ue, uk.0), (to, (more, md), refl))
-opened_behind_attribute from to (None, a ∷ more, (m1, same, (m2, (r, (t, te, tk), (m3, ad, md)), cd))) =
-    open_by behind_attribute Comma from to t r (same ∙ te) (is_comma t tk) (to, (a, more, (m3, ad, (m2, md, cd))), refl)
-opened_behind_attribute from to (None, [], (m1, same, (m2, same', (t, te, tk)))) =
-    open_by behind_attribute CloseBracket from to t to (same ∙ same' ∙ te) (is_close_bracket t tk) refl
+opened_after_attribute from to (Some text, more, (m1, (r, (t, te, tk), (u, ue, uk)), md)) =
+    open_by after_attribute Equals from to t r te (is_equals t tk) (m1, (u, ue, uk.0), (to, (more, md), refl))
+opened_after_attribute from to (None, a ∷ more, (m1, same, (m2, (r, (t, te, tk), (m3, ad, md)), cd))) =
+    open_by after_attribute Comma from to t r (same ∙ te) (is_comma t tk) (to, (a, more, (m3, ad, (m2, md, cd))), refl)
+opened_after_attribute from to (None, [], (m1, same, (m2, same', (t, te, tk)))) =
+    open_by after_attribute CloseBracket from to t to (same ∙ same' ∙ te) (is_close_bracket t tk) refl
 
 opened_more_attributed : (from to : List Token) → Takes more_attributed from to → Opened more_attributed from to
 unfolding production
@@ -142,13 +142,13 @@ opened_more_attributed from to ([], (m2, same, (t, te, tk))) =
 
 -- parameters
 
--- the table of a parameter holds that of a type, and that of parameters the table of a parameter
-param_table : (s : Symbol) (rest to : List Token) → Behind (type_begins 4 ending.Name s) rest to → Behind (production one_param s) rest to
+-- the table of a parameter includes that of a type, and the table of parameters that of a parameter
+param_table : (s : Symbol) (rest to : List Token) → Following (type_begins 4 ending.Name s) rest to → Following (production one_param s) rest to
 unfolding production
 param_table OpenBracket rest to d = absurd d
 param_table s rest to d = d
 
-parameters_table : (s : Symbol) (rest to : List Token) → Behind (behind (production one_param s) (more_parameters ∷ [])) rest to → Behind (production parameters s) rest to
+parameters_table : (s : Symbol) (rest to : List Token) → Following (following (production one_param s) (more_parameters ∷ [])) rest to → Following (production parameters s) rest to
 unfolding production
 parameters_table CloseParen rest to d = absurd d
 parameters_table s rest to d = d
@@ -166,7 +166,7 @@ opened_parameters : (from to : List Token) → Takes parameters from to → Open
 unfolding production
 opened_parameters from to (p ∷ ps, (m1, (middle, pd, md), cd)) =
     let r = opened_one_param from middle (p, pd) in
-    (r.0, r.1, r.2, parameters_table (symbol r.0) r.1 to (behind_together (production one_param (symbol r.0)) (more_parameters ∷ []) r.1 middle to r.3 (to, (ps, (m1, md, cd)), refl)))
+    (r.0, r.1, r.2, parameters_table (symbol r.0) r.1 to (after_together (production one_param (symbol r.0)) (more_parameters ∷ []) r.1 middle to r.3 (to, (ps, (m1, md, cd)), refl)))
 opened_parameters from to ([], (m1, same, (t, te, tk))) = open_by parameters CloseParen from to t to (same ∙ te) (is_close_paren t tk) refl
 
 opened_more_parameters : (from to : List Token) → Takes more_parameters from to → Opened more_parameters from to
@@ -175,11 +175,11 @@ opened_more_parameters from to (p ∷ ps, (m1, (r, (t, te, tk), (middle, pd, md)
     open_by more_parameters Comma from to t r te (is_comma t tk) (middle, (p, pd), (to, (ps, (m1, md, cd)), refl))
 opened_more_parameters from to ([], (m1, same, (t, te, tk))) = open_by more_parameters CloseParen from to t to (same ∙ te) (is_close_paren t tk) refl
 
-opened_behind_parameters : (from to : List Token) → Takes behind_parameters from to → Opened behind_parameters from to
+opened_after_parameters : (from to : List Token) → Takes after_parameters from to → Opened after_parameters from to
 unfolding production
-opened_behind_parameters from to (Some ps, (m2, (r, (t, te, tk), (m, (u, ue, uk), (m3, pd, cd))), (v, ve, vk))) =
-    open_by behind_parameters Returns from to t r te (is_returns t tk) (m, (u, ue, is_open_paren u uk), (m2, (ps, (m3, pd, cd)), (to, (v, ve, is_semicolon v vk), refl)))
-opened_behind_parameters from to (None, (m2, same, (t, te, tk))) = open_by behind_parameters Semicolon from to t to (same ∙ te) (is_semicolon t tk) refl
+opened_after_parameters from to (Some ps, (m2, (r, (t, te, tk), (m, (u, ue, uk), (m3, pd, cd))), (v, ve, vk))) =
+    open_by after_parameters Returns from to t r te (is_returns t tk) (m, (u, ue, is_open_paren u uk), (m2, (ps, (m3, pd, cd)), (to, (v, ve, is_semicolon v vk), refl)))
+opened_after_parameters from to (None, (m2, same, (t, te, tk))) = open_by after_parameters Semicolon from to t to (same ∙ te) (is_semicolon t tk) refl
 
 -- messages and sections
 
@@ -190,19 +190,19 @@ opened_one_message from to (semantics.Async, name, place, ps, answers, (r, (t, t
 opened_one_message from to (semantics.Sync, name, place, ps, answers, (r, (t, te, tk), (m4, (u, ue, uk), (m5, (v, ve, vk), (m6, pd, (m7, cd, (m8, rd, sd))))))) =
     open_by one_message Sync from to t r te (is_sync t tk) (m4, (u, ue, is_word u uk.0), (m5, (v, ve, is_open_paren v vk), (m7, (ps, (m6, pd, cd)), (to, (answers, (m8, rd, sd)), refl))))
 
-messaged_table : (d : Direction) (s : Symbol) (rest to : List Token) → Behind (behind (production one_message s) (messaged d ∷ [])) rest to → Behind (production (messaged d) s) rest to
+messaged_table : (d : Direction) (s : Symbol) (rest to : List Token) → Following (following (production one_message s) (messaged d ∷ [])) rest to → Following (production (messaged d) s) rest to
 unfolding production
 messaged_table d Async rest to h = h
 messaged_table d Sync rest to h = h
 messaged_table d _ rest to h = absurd h
 
-message_opened : (d : Direction) (list : List Attribute) (from middle behind_it to : List Token) → attributes list from middle → Takes one_message middle behind_it → Takes (messaged d) behind_it to → Opened (messaged d) from to
+message_opened : (d : Direction) (list : List Attribute) (from middle after_it to : List Token) → attributes list from middle → Takes one_message middle after_it → Takes (messaged d) after_it to → Opened (messaged d) from to
 unfolding production
-message_opened d [] from middle behind_it to same od more =
-    let r = opened_one_message middle behind_it od in
-    (r.0, r.1, same ∙ r.2, messaged_table d (symbol r.0) r.1 to (behind_together (production one_message (symbol r.0)) (messaged d ∷ []) r.1 behind_it to r.3 (to, more, refl)))
-message_opened d (a ∷ list) from middle behind_it to (r, (t, te, tk), ad) od more =
-    open_by (messaged d) OpenBracket from to t r te (is_open_bracket t tk) (middle, (a, list, ad), (behind_it, od, (to, more, refl)))
+message_opened d [] from middle after_it to same od more =
+    let r = opened_one_message middle after_it od in
+    (r.0, r.1, same ∙ r.2, messaged_table d (symbol r.0) r.1 to (after_together (production one_message (symbol r.0)) (messaged d ∷ []) r.1 after_it to r.3 (to, more, refl)))
+message_opened d (a ∷ list) from middle after_it to (r, (t, te, tk), ad) od more =
+    open_by (messaged d) OpenBracket from to t r te (is_open_bracket t tk) (middle, (a, list, ad), (after_it, od, (to, more, refl)))
 
 -- the sections from here on
 abbrev Sectioned : Part
@@ -210,12 +210,12 @@ Sectioned from to = (ss : List MessageSection) × (sections ss ⨾ closed) from 
 
 -- what has the table of sections
 abbrev HasSections : Form → Type 0
-HasSections f = (s : Symbol) (rest to : List Token) → Behind (section_begins s) rest to → Behind (production f s) rest to
+HasSections f = (s : Symbol) (rest to : List Token) → Following (section_begins s) rest to → Following (production f s) rest to
 
-section_opened : (f : Form) (d : Direction) (from r middle behind_it to : List Token) → HasSections f → reserved (direction_word d) from r → mark (codes ":") r middle → Takes (messaged d) middle to → Opened f from to
-section_opened f direction.Parent from r middle behind_it to table (t, te, tk) (u, ue, uk) md = open_by f Parent from to t r te (is_parent t tk) (table Parent r to (middle, (u, ue, is_colon u uk), (to, md, refl)))
-section_opened f direction.Child from r middle behind_it to table (t, te, tk) (u, ue, uk) md = open_by f Child from to t r te (is_child t tk) (table Child r to (middle, (u, ue, is_colon u uk), (to, md, refl)))
-section_opened f direction.Both from r middle behind_it to table (t, te, tk) (u, ue, uk) md = open_by f Both from to t r te (is_both t tk) (table Both r to (middle, (u, ue, is_colon u uk), (to, md, refl)))
+section_opened : (f : Form) (d : Direction) (from r middle after_it to : List Token) → HasSections f → reserved (direction_word d) from r → mark (codes ":") r middle → Takes (messaged d) middle to → Opened f from to
+section_opened f direction.Parent from r middle after_it to table (t, te, tk) (u, ue, uk) md = open_by f Parent from to t r te (is_parent t tk) (table Parent r to (middle, (u, ue, is_colon u uk), (to, md, refl)))
+section_opened f direction.Child from r middle after_it to table (t, te, tk) (u, ue, uk) md = open_by f Child from to t r te (is_child t tk) (table Child r to (middle, (u, ue, is_colon u uk), (to, md, refl)))
+section_opened f direction.Both from r middle after_it to table (t, te, tk) (u, ue, uk) md = open_by f Both from to t r te (is_both t tk) (table Both r to (middle, (u, ue, is_colon u uk), (to, md, refl)))
 
 sectioned_opened : (f : Form) (from to : List Token) → HasSections f → Sectioned from to → Opened f from to
 sectioned_opened f from to table (s ∷ ss, (m4, (m3, (r, wd, (m1, ud, msd)), sd), cd)) =
@@ -259,12 +259,12 @@ opened_more_managing from to ([], (m3, same, (t, te, tk))) = open_by more_managi
 
 -- structs and unions
 
-fielded_table : (s : Symbol) (rest to : List Token) → Behind (behind (production (typed 4 ending.Name) s) (take Semicolon ∷ fielded ∷ [])) rest to → Behind (production fielded s) rest to
+fielded_table : (s : Symbol) (rest to : List Token) → Following (following (production (typed 4 ending.Name) s) (take Semicolon ∷ fielded ∷ [])) rest to → Following (production fielded s) rest to
 unfolding production
 fielded_table CloseBrace rest to d = absurd d
 fielded_table s rest to d = d
 
-componented_table : (s : Symbol) (rest to : List Token) → Behind (behind (production (typed 4 ending.Semicolon) s) (componented ∷ [])) rest to → Behind (production componented s) rest to
+componented_table : (s : Symbol) (rest to : List Token) → Following (following (production (typed 4 ending.Semicolon) s) (componented ∷ [])) rest to → Following (production componented s) rest to
 unfolding production
 componented_table CloseBrace rest to d = absurd d
 componented_table s rest to d = d
@@ -273,7 +273,7 @@ opened_fielded : (from to : List Token) → Takes fielded from to → Opened fie
 unfolding production
 opened_fielded from to (p ∷ fs, (m3, (m1, (bare, (m, td, (m2, (u, ue, uk), (v, ve, vk)))), fd), cd)) =
     let r = opened_typed 4 ending.Name from m2 (p.spec.nullable, p.spec.base, p.spec.suffixes, p.spec.place, (m, td, (u, ue, uk.0))) in
-    (r.0, r.1, r.2, fielded_table (symbol r.0) r.1 to (behind_together (production (typed 4 ending.Name) (symbol r.0)) (take Semicolon ∷ fielded ∷ []) r.1 m2 to r.3 (m1, (v, ve, is_semicolon v vk), (to, (fs, (m3, fd, cd)), refl))))
+    (r.0, r.1, r.2, fielded_table (symbol r.0) r.1 to (after_together (production (typed 4 ending.Name) (symbol r.0)) (take Semicolon ∷ fielded ∷ []) r.1 m2 to r.3 (m1, (v, ve, is_semicolon v vk), (to, (fs, (m3, fd, cd)), refl))))
 opened_fielded from to ([], (m3, same, (r, (t, te, tk), (u, ue, uk)))) =
     open_by fielded CloseBrace from to t r (same ∙ te) (is_close_brace t tk) (to, (u, ue, is_semicolon u uk), refl)
 
@@ -281,27 +281,27 @@ opened_componented : (from to : List Token) → Takes componented from to → Op
 unfolding production
 opened_componented from to (c ∷ cs, (m3, (m, td, (m1, sd, cd)), ed)) =
     let r = opened_typed 4 ending.Semicolon from m1 (c.nullable, c.base, c.suffixes, c.place, (m, td, sd)) in
-    (r.0, r.1, r.2, componented_table (symbol r.0) r.1 to (behind_together (production (typed 4 ending.Semicolon) (symbol r.0)) (componented ∷ []) r.1 m1 to r.3 (to, (cs, (m3, cd, ed)), refl)))
+    (r.0, r.1, r.2, componented_table (symbol r.0) r.1 to (after_together (production (typed 4 ending.Semicolon) (symbol r.0)) (componented ∷ []) r.1 m1 to r.3 (to, (cs, (m3, cd, ed)), refl)))
 opened_componented from to ([], (m3, same, (r, (t, te, tk), (u, ue, uk)))) =
     open_by componented CloseBrace from to t r (same ∙ te) (is_close_brace t tk) (to, (u, ue, is_semicolon u uk), refl)
 
 -- usings and includes
 
-opened_behind_using : (from to : List Token) → Takes behind_using from to → Opened behind_using from to
+opened_after_using : (from to : List Token) → Takes after_using from to → Opened after_using from to
 unfolding production
-opened_behind_using from to (w ∷ ws, inner, (m3, (r, (t, te, tk), (m, (u, ue, uk), wd)), more)) =
-    open_by behind_using Colons from to t r te (is_colons t tk) (m, (u, ue, is_word u uk.0), (to, (ws, inner, (m3, wd, more)), refl))
-opened_behind_using from to ([], Some name, (m3, same, (m2, (r, (t, te, tk), (m1, qd, gd)), (m4, (f, fe, fk), (m5, (q, qe, qk), (v, ve, vk)))))) =
-    open_by behind_using Less from to t r (same ∙ te) (is_less t tk) (m2, (name, (m1, qd, gd)), (m4, (f, fe, is_from f fk), (m5, (q, qe, is_quoted q qk), (to, (v, ve, is_semicolon v vk), refl))))
-opened_behind_using from to ([], None, (m3, same, (m2, same', (m4, (f, fe, fk), (m5, (q, qe, qk), (v, ve, vk)))))) =
-    open_by behind_using From from to f m4 (same ∙ same' ∙ fe) (is_from f fk) (m5, (q, qe, is_quoted q qk), (to, (v, ve, is_semicolon v vk), refl))
+opened_after_using from to (w ∷ ws, inner, (m3, (r, (t, te, tk), (m, (u, ue, uk), wd)), more)) =
+    open_by after_using Colons from to t r te (is_colons t tk) (m, (u, ue, is_word u uk.0), (to, (ws, inner, (m3, wd, more)), refl))
+opened_after_using from to ([], Some name, (m3, same, (m2, (r, (t, te, tk), (m1, qd, gd)), (m4, (f, fe, fk), (m5, (q, qe, qk), (v, ve, vk)))))) =
+    open_by after_using Less from to t r (same ∙ te) (is_less t tk) (m2, (name, (m1, qd, gd)), (m4, (f, fe, is_from f fk), (m5, (q, qe, is_quoted q qk), (to, (v, ve, is_semicolon v vk), refl))))
+opened_after_using from to ([], None, (m3, same, (m2, same', (m4, (f, fe, fk), (m5, (q, qe, qk), (v, ve, vk)))))) =
+    open_by after_using From from to f m4 (same ∙ same' ∙ fe) (is_from f fk) (m5, (q, qe, is_quoted q qk), (to, (v, ve, is_semicolon v vk), refl))
 
 opened_using_word : (from to : List Token) → Takes using_word from to → Opened using_word from to
 unfolding production
 opened_using_word from to (full, place, (m2, (t0, r0, te0, pl, (name, inner, whole, (m1, (first, ws, j, (r, (t, te, tk), wd)), ad))), more)) =
     open_by using_word Word from to t r te (is_word t tk.0) (to, (ws, inner, (m1, wd, (m2, ad, more))), refl)
 
-using_table : (s : Symbol) (rest to : List Token) → Behind (production using_word s) rest to → Behind (production using_named s) rest to
+using_table : (s : Symbol) (rest to : List Token) → Following (production using_word s) rest to → Following (production using_named s) rest to
 unfolding production
 using_table Word rest to d = d
 using_table _ rest to d = absurd d
@@ -380,12 +380,12 @@ opened any_word from to d = opened_any_word from to d
 opened argument_name from to d = opened_argument_name from to d
 opened argument_words from to d = opened_argument_words from to d
 opened attributed from to d = opened_attributed from to d
-opened behind_attribute from to d = opened_behind_attribute from to d
+opened after_attribute from to d = opened_after_attribute from to d
 opened more_attributed from to d = opened_more_attributed from to d
 opened one_param from to d = opened_one_param from to d
 opened parameters from to d = opened_parameters from to d
 opened more_parameters from to d = opened_more_parameters from to d
-opened behind_parameters from to d = opened_behind_parameters from to d
+opened after_parameters from to d = opened_after_parameters from to d
 opened one_message from to d = opened_one_message from to d
 opened managing from to d = opened_managing from to d
 opened more_managing from to d = opened_more_managing from to d
@@ -393,7 +393,7 @@ opened fielded from to d = opened_fielded from to d
 opened componented from to d = opened_componented from to d
 opened using_named from to d = opened_using_named from to d
 opened using_word from to d = opened_using_word from to d
-opened behind_using from to d = opened_behind_using from to d
+opened after_using from to d = opened_after_using from to d
 opened include_named from to d = opened_include_named from to d
 opened (suffixed n e) from to d = opened_suffixed n e from to d
 opened (named e) from to d = named_opened e from to d

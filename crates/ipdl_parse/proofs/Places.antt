@@ -20,7 +20,7 @@ one_more : (xs : List Token) (y : Token) (ys : List Token) → take (suc (length
 one_more [] y ys = refl
 one_more (x ∷ xs) y ys = ap (λ (z : List Token). x ∷ z) (one_more xs y ys)
 
--- what was taken, and what is left there
+-- the tokens that were taken, and those that are left at the refusal
 module _ (kind : FileKind) (front : List Token) (forms : List Form) (at : FileState) (goes : (more : List Token) → refusal [] (begin kind) (front ++ more) ≡ refusal forms at more) where
   front_goes_on : GoesOn kind front
   front_goes_on = let c = completed forms at in (c.0, taken_tree kind (front ++ c.0) (goes c.0 ∙ c.1))

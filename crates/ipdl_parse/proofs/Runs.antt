@@ -3,24 +3,24 @@ use Rattle.std.proofs.Common.{◌≡◌, ℕ, ◌+◌, Bool, true, false, cond, 
 use Rattle.ipdl_base.specs.declared.token.Token.{Token}
 use Rattle.tree_reader.specs.Symbols.{symbol}
 use Rattle.tree_reader.specs.Machine.{Form, production, FileState, step, is_end, gone_at, gone_in, refusal}
-use Rattle.ipdl_parse.proofs.Meaning.{TakeAll, Behind, together, apart}
+use Rattle.ipdl_parse.proofs.Meaning.{TakeAll, Following, together, apart}
 use Rattle.ipdl_parse.proofs.Built.{built}
 use Rattle.ipdl_parse.proofs.Opened.{opened}
 
 -- what the tokens of forms lead to
 
-pub heads : (f : Form) (t u : Token) (rest more to : List Token) → t ∷ rest ≡ u ∷ more → Behind (production f (symbol u)) more to → Behind (production f (symbol t)) rest to
+pub heads : (f : Form) (t u : Token) (rest more to : List Token) → t ∷ rest ≡ u ∷ more → Following (production f (symbol u)) more to → Following (production f (symbol t)) rest to
 heads f t u rest more to e d =
     let one : u ≡ t = cc in let other : more ≡ rest = cc in
-    subst (λ (x : Token). Behind (production f (symbol x)) rest to) one (subst (λ (x : List Token). Behind (production f (symbol u)) x to) other d)
+    subst (λ (x : Token). Following (production f (symbol x)) rest to) one (subst (λ (x : List Token). Following (production f (symbol u)) x to) other d)
 
-passes_in : (o : Option (List Form)) (fs stack : List Form) (at : FileState) (rest middle to : List Token) (left : ℕ) (end : Option ℕ) → ((ss : List Form) → TakeAll ss rest to → refusal (ss ++ stack) at rest ≡ end) → Behind o rest middle → TakeAll fs middle to →
+passes_in : (o : Option (List Form)) (fs stack : List Form) (at : FileState) (rest middle to : List Token) (left : ℕ) (end : Option ℕ) → ((ss : List Form) → TakeAll ss rest to → refusal (ss ++ stack) at rest ≡ end) → Following o rest middle → TakeAll fs middle to →
     gone_in o left (λ new. refusal (new ++ (fs ++ stack)) at rest) ≡ end
 passes_in None fs stack at rest middle to left end ih d more = absurd d
 passes_in (Some new) fs stack at rest middle to left end ih d more =
     subst (λ (x : List Form). refusal x at rest ≡ end) (append_assoc new fs stack) (ih (new ++ fs) (together new fs rest middle to d more))
 
--- the machine takes what forms take, and stands behind them
+-- the machine takes what forms take, and is then after them
 pub passes : (ss stack : List Form) (at : FileState) (from to : List Token) → TakeAll ss from to → refusal (ss ++ stack) at from ≡ refusal stack at to
 unfolding refusal
 passes [] stack at from to same = ap (λ (x : List Token). refusal stack at x) same
@@ -41,7 +41,7 @@ accepted_in None f fs stack at t rest is ih h = absurd (cc)
 accepted_in (Some new) f fs stack at t rest is ih h =
     let r = ih (new ++ fs) (subst (λ (x : List Form). refusal x at rest ≡ None) (sym (append_assoc new fs stack)) h) in
     let a = apart new fs rest r.0 r.1 in
-    (r.0, (a.0, built f (symbol t) t rest a.0 refl (subst (λ (x : Option (List Form)). Behind x rest a.0) (sym is) a.1), a.2), r.2)
+    (r.0, (a.0, built f (symbol t) t rest a.0 refl (subst (λ (x : Option (List Form)). Following x rest a.0) (sym is) a.1), a.2), r.2)
 
 pub accepted : (ss stack : List Form) (at : FileState) (from : List Token) → refusal (ss ++ stack) at from ≡ None → Accepted ss stack at from
 unfolding refusal
@@ -49,7 +49,7 @@ accepted [] stack at from h = (from, refl, h)
 accepted (f ∷ fs) stack at [] h = absurd (cc)
 accepted (f ∷ fs) stack at (t ∷ rest) h = accepted_in (production f (symbol t)) f fs stack at t rest refl (λ ss e. accepted ss stack at rest e) h
 
--- where the machine refuses, it took all before, whatever comes then, and refuses there
+-- the machine takes all tokens before its refusal, whatever comes after, and refuses there
 
 abbrev pub Refusing : List Form → FileState → List Token → Type 0
 Refusing forms at [] = refusal forms at [] ≡ Some 0
@@ -68,7 +68,7 @@ pub record Stops (forms : List Form) (at : FileState) (tokens : List Token) (lef
 stops_here : (forms : List Form) (at : FileState) (tokens : List Token) (left : ℕ) → length tokens ≡ left → Refusing forms at tokens → Stops forms at tokens left
 stops_here forms at tokens left count r = record { taken = []; rest = tokens; forms_then = forms; at_then = at; whole = refl; count = count; goes = λ more. refl; refuses = r }
 
--- one token more before
+-- one more token before
 stops_later : (forms forms' : List Form) (at at' : FileState) (t : Token) (tokens : List Token) (left : ℕ) → ((more : List Token) → refusal forms at (t ∷ more) ≡ refusal forms' at' more) → Stops forms' at' tokens left → Stops forms at (t ∷ tokens) left
 stops_later forms forms' at at' t tokens left one s = record {
   taken = t ∷ s.taken;

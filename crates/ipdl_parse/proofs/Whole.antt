@@ -1,4 +1,4 @@
--- Whole files: what the machine takes to its end is what the grammar says.
+-- Whole files: the machine takes exactly the files of the grammar to their end.
 use Rattle.std.proofs.Common.{◌≡◌, ℕ, zero, suc, ◌+◌, inl, inr, Bool, true, false, cond, List, [], ◌∷◌, ◌++◌, length, Option, Some, None, refl, sym, ap, subst, arith}
 use Rattle.ipdl_base.specs.declared.token.Token.{Token}
 use Rattle.ipdl_syntax.specs.declared.tree.FileKind.{FileKind}
@@ -8,36 +8,36 @@ use Rattle.ipdl_syntax.specs.Grammar.{outside_end}
 use Rattle.ipdl_syntax.specs.Program.{Tree, unit_of, declared_outside, declared_round, protocol_of, ◌&◌}
 use Rattle.tree_reader.specs.Symbols.{symbol}
 use Rattle.tree_reader.specs.Machine.{Form, production, FileState, stand, step, is_end, begin, gone_at, gone_in, refusal}
-use Rattle.ipdl_parse.proofs.Meaning.{Behind, together, apart}
+use Rattle.ipdl_parse.proofs.Meaning.{Following, together, apart}
 use Rattle.ipdl_parse.proofs.Built.{built}
 use Rattle.ipdl_parse.proofs.Opened.{opened}
-use Rattle.ipdl_parse.proofs.Files.{FileRest, Whole, BehindAt}
+use Rattle.ipdl_parse.proofs.Files.{FileRest, Whole, AfterAt}
 use Rattle.ipdl_parse.proofs.FileBuilt.{file_built}
 use Rattle.ipdl_parse.proofs.FileOpened.{FileOpened, file_opened}
 use Rattle.ipdl_parse.proofs.Runs.{heads}
 
--- what is whole is taken
+-- a whole file is taken
 
-taken_at : (o : Option (List Form × FileState)) (rest : List Token) (left : ℕ) → ((forms : List Form) (at : FileState) → Whole forms at rest → refusal forms at rest ≡ None) → BehindAt o rest → gone_at o left (λ forms to. refusal forms to rest) ≡ None
+taken_at : (o : Option (List Form × FileState)) (rest : List Token) (left : ℕ) → ((forms : List Form) (at : FileState) → Whole forms at rest → refusal forms at rest ≡ None) → AfterAt o rest → gone_at o left (λ forms to. refusal forms to rest) ≡ None
 taken_at None rest left ih d = absurd d
 taken_at (Some next) rest left ih d = ih next.0 next.1 d
 
-taken_in : (o : Option (List Form)) (fs : List Form) (at : FileState) (rest middle : List Token) (left : ℕ) → ((forms : List Form) → Whole forms at rest → refusal forms at rest ≡ None) → Behind o rest middle → Whole fs at middle →
+taken_in : (o : Option (List Form)) (fs : List Form) (at : FileState) (rest middle : List Token) (left : ℕ) → ((forms : List Form) → Whole forms at rest → refusal forms at rest ≡ None) → Following o rest middle → Whole fs at middle →
     gone_in o left (λ new. refusal (new ++ fs) at rest) ≡ None
 taken_in None fs at rest middle left ih d w = absurd d
 taken_in (Some new) fs at rest middle left ih d (m, more, r) = ih (new ++ fs) (m, together new fs rest middle m d more, r)
 
-file_heads : (at : FileState) (t u : Token) (rest more : List Token) → t ∷ rest ≡ u ∷ more → BehindAt (step at (symbol u)) more → BehindAt (step at (symbol t)) rest
+file_heads : (at : FileState) (t u : Token) (rest more : List Token) → t ∷ rest ≡ u ∷ more → AfterAt (step at (symbol u)) more → AfterAt (step at (symbol t)) rest
 file_heads at t u rest more e d =
     let one : u ≡ t = cc in let other : more ≡ rest = cc in
-    subst (λ (x : Token). BehindAt (step at (symbol x)) rest) one (subst (λ (x : List Token). BehindAt (step at (symbol u)) x) other d)
+    subst (λ (x : Token). AfterAt (step at (symbol x)) rest) one (subst (λ (x : List Token). AfterAt (step at (symbol u)) x) other d)
 
 taken_end : (at : FileState) → FileOpened at [] → refusal [] at [] ≡ None
 unfolding refusal
 taken_end at (inl h) = ap (λ (b : Bool). cond b None (Some 0)) h.1
 taken_end at (inr (t, rest, e, d)) = absurd (cc)
 
-taken_begin : (at : FileState) (t : Token) (rest : List Token) → FileOpened at (t ∷ rest) → BehindAt (step at (symbol t)) rest
+taken_begin : (at : FileState) (t : Token) (rest : List Token) → FileOpened at (t ∷ rest) → AfterAt (step at (symbol t)) rest
 taken_begin at t rest (inl h) = absurd (cc h.0)
 taken_begin at t rest (inr (u, more, e, d)) = file_heads at t u rest more e d
 
@@ -52,7 +52,7 @@ taken (f ∷ fs) at (t ∷ rest) (m, (m1, here, more), r) =
     let q = opened f (t ∷ rest) m1 here in
     taken_in (production f (symbol t)) fs at rest m1 (length rest + 1) (λ forms w. taken forms at rest w) (heads f t q.0 rest q.1 m1 q.2 q.3) (m, more, r)
 
--- what is taken is whole
+-- tokens that are taken are a whole file
 
 not_end : (n : ℕ) (h : Bool) → is_end [] (stand false (suc n) h) ≡ true → ⊥
 not_end n h e = grind arith
@@ -66,7 +66,7 @@ end_whole (stand false (suc n) h) e = absurd (not_end n h e)
 whole_at : (o : Option (List Form × FileState)) (at : FileState) (t : Token) (rest : List Token) → step at (symbol t) ≡ o → ((forms : List Form) (to : FileState) → refusal forms to rest ≡ None → Whole forms to rest) →
     gone_at o (length rest + 1) (λ forms to. refusal forms to rest) ≡ None → FileRest at (t ∷ rest)
 whole_at None at t rest is ih h = absurd (cc)
-whole_at (Some next) at t rest is ih h = file_built at (symbol t) t rest refl (subst (λ (x : Option (List Form × FileState)). BehindAt x rest) (sym is) (ih next.0 next.1 h))
+whole_at (Some next) at t rest is ih h = file_built at (symbol t) t rest refl (subst (λ (x : Option (List Form × FileState)). AfterAt x rest) (sym is) (ih next.0 next.1 h))
 
 whole_in : (o : Option (List Form)) (f : Form) (fs : List Form) (at : FileState) (t : Token) (rest : List Token) → production f (symbol t) ≡ o → ((forms : List Form) → refusal forms at rest ≡ None → Whole forms at rest) →
     gone_in o (length rest + 1) (λ new. refusal (new ++ fs) at rest) ≡ None → Whole (f ∷ fs) at (t ∷ rest)
@@ -74,7 +74,7 @@ whole_in None f fs at t rest is ih h = absurd (cc)
 whole_in (Some new) f fs at t rest is ih h =
     let w = ih (new ++ fs) h in
     let a = apart new fs rest w.0 w.1 in
-    (w.0, (a.0, built f (symbol t) t rest a.0 refl (subst (λ (x : Option (List Form)). Behind x rest a.0) (sym is) a.1), a.2), w.2)
+    (w.0, (a.0, built f (symbol t) t rest a.0 refl (subst (λ (x : Option (List Form)). Following x rest a.0) (sym is) a.1), a.2), w.2)
 
 end_of : (b : Bool) (o : Option ℕ) → o ≡ None → cond b None (Some 0) ≡ o → b ≡ true
 end_of true o n h = refl

@@ -1,4 +1,4 @@
--- What a fault of the grammar says.
+-- What a fault of the grammar means.
 use Rattle.ipdl_base.specs.declared.finding.Place.{Place}
 use Rattle.ipdl_base.specs.declared.token.Token.{Token}
 use Rattle.std.specs.Prelude.{◌≡◌, ℕ, List}
@@ -7,7 +7,7 @@ use Rattle.ipdl_parse.specs.declared.parser.SyntaxFault.{SyntaxFault}
 use Rattle.ipdl_parse.specs.declared.parser.SyntaxFault.TheVariants.{Fault, NoMemory}
 use Rattle.ipdl_parse.specs.Place.{HasTree, IsSyntaxPlace, IsPlaceAt}
 
--- A fault says that there is no tree, and has the syntax place. Memory may run out in any case.
+-- A fault means that there is no tree, and has the syntax place. Memory may run out in any case.
 abbrev pub IsFault : FileKind → List Token → Place → SyntaxFault → Type 0
 IsFault kind tokens end (Fault index place) = (¬ HasTree kind tokens) × IsSyntaxPlace kind tokens index × IsPlaceAt tokens end index place
 IsFault kind tokens end NoMemory = Unit {0}

@@ -1,4 +1,4 @@
--- The place up to which a text goes on to some file.
+-- The place up to which tokens can continue to some file.
 use Rattle.std.specs.Prelude.{◌≡◌, ℕ, ◌+◌, ◌≤◌, ◌<◌, List, ◌++◌, length, take, slice_get, MatchOption}
 use Rattle.ipdl_base.specs.declared.finding.Place.{Place}
 use Rattle.ipdl_base.specs.declared.token.Token.{Token}
@@ -14,7 +14,7 @@ HasTree kind tokens = (unit : FileUnit) × Tree kind tokens unit
 abbrev pub GoesOn : FileKind → List Token → Type 0
 GoesOn kind tokens = (more : List Token) × HasTree kind (tokens ++ more)
 
--- The syntax place: as many tokens from the front as go on to tokens with a tree, and not one more.
+-- The syntax place: the longest prefix of the tokens that can continue to tokens with a tree.
 pub record IsSyntaxPlace (kind : FileKind) (tokens : List Token) (index : ℕ) : Type 0 where
   pub within : index ≤ length tokens
   pub goes_on : GoesOn kind (take index tokens)

@@ -1,4 +1,4 @@
--- What it means that a tree is the only one.
+-- What it means for a tree to be the only one.
 use Rattle.std.specs.Prelude.{◌≡◌, List}
 use Rattle.ipdl_base.specs.declared.token.Token.{Token}
 use Rattle.ipdl_syntax.specs.declared.tree.FileKind.{FileKind}

@@ -1,5 +1,5 @@
-//! The tree of the tokens of a file exactly where there is one, and else the end of their longest viable
-//! prefix (docs/grammar.md).
+//! Parses the tokens of a file: gives their tree if they have one, or else the end of their longest
+//! viable prefix (docs/grammar.md).
 #![tactic(auto)]
 
 mod parser;

@@ -1,3 +1,5 @@
+//! Parses the tokens of a file by the grammar of its kind.
+
 ghost use Rattle.std.specs.Prelude.{◌≡◌, ℕ, ◌-◌, ◌≤◌, length, IfOk, IfErr};
 ghost use Rattle.ipdl_syntax.specs.Program.{Tree};
 ghost use Rattle.ipdl_parse.specs.Faults.{IsFault, IsFaultAt};
@@ -9,22 +11,23 @@ use ipdl_syntax::{FileKind, Unit};
 use std::alloc::Global;
 use tree_reader::{TreeRefusal, read_file};
 
-/// Why tokens have no tree.
+/// Why tokens were not parsed.
 #[derive(Clone, Copy, Debug, PartialEq, Eq)]
 pub enum SyntaxFault {
-    /// How many tokens the longest viable prefix has, the most from the front with which some file of
-    /// this kind begins, and the place of the token behind it, or that of the end.
+    /// The tokens have no tree. `index` is the number of tokens of their longest prefix with which
+    /// some file of this kind begins. `place` is that of the token after this prefix, or that of
+    /// the end.
     Fault { index: usize, place: Place },
     /// Memory ran out.
     NoMemory,
 }
 
-/// The tree of a file's tokens by the grammar of its kind (docs/grammar.md). `end` is the place of
-/// the text's end. The tokens have this tree and no other, up to where its boxes lie.
+/// Returns the tree of a file's tokens by the grammar of its kind (docs/grammar.md). `end` is the
+/// place of the text's end. The tokens have this tree and no other, up to where its boxes lie.
 ///
-/// Where they have none, the answer is `SyntaxFault::Fault` at the first token at which no file of
-/// this kind goes on, or at the end where all tokens begin some file. It is `SyntaxFault::NoMemory`
-/// where memory runs out, which it may in any case, also where the tokens have no tree.
+/// If they have no tree, the error is `SyntaxFault::Fault` at the first token with which no file of
+/// this kind continues, or at the end if some file begins with all of the tokens. The error may be
+/// `SyntaxFault::NoMemory` for any tokens, also for tokens that have no tree.
 pub fn parse(
     alloc: Global,
     tokens: &[Token],
@@ -43,7 +46,7 @@ pub fn parse(
     }
 }
 
-/// The fault where so many tokens are left.
+/// Returns the fault at the first of the last `left` tokens, or at the end if `left` is 0.
 fn fault(tokens: &[Token], end: Place, left: usize) -> SyntaxFault
     requires { left ≤ length tokens.now }
     ensures { IsFaultAt tokens.now end (length tokens.now - left) result }

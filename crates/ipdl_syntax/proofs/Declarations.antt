@@ -1,9 +1,9 @@
--- Declarations one behind the other.
+-- Declarations one after the other.
 use Rattle.std.proofs.Common.{◌≡◌, append_assoc}
 use Rattle.std.proofs.lemmas.List.{append-nil}
 use Rattle.ipdl_syntax.specs.Program.{Declarations, ◌&◌, no_declaration}
 
--- three lots of declarations are in one order
+-- joining three lists of declarations is associative
 pub and_assoc : (a b c : Declarations) → ((a & b) & c) ≡ (a & b & c)
 and_assoc a b c = λ i. record {
   includes = append_assoc a.includes b.includes c.includes i;
@@ -12,6 +12,6 @@ and_assoc a b c = λ i. record {
   unions = append_assoc a.unions b.unions c.unions i;
 }
 
--- what is declared before nothing more
+-- declarations before no others
 pub and_none : (a : Declarations) → (a & no_declaration) ≡ a
 and_none a = λ i. record { includes = append-nil a.includes i; usings = append-nil a.usings i; structs = append-nil a.structs i; unions = append-nil a.unions i }

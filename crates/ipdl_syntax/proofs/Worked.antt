@@ -153,14 +153,14 @@ no_attribute : (all : List Attribute) (t : Token) (rest to : List Token) → t.k
 no_attribute [] t rest to e p = p
 no_attribute (a ∷ more) t rest to e p = let it = p.1 in cc (it.1, it.2.0)
 
--- `union U { };` is no union, whatever stands behind it.
-pub empty_union : (scope : List (List ℕ)) (u : UnionDecl) (behind to : List Token) →
-    union_decl scope u (a_reserved (codes "union") 1 ∷ a_word (codes "U") 7 ∷ a_mark (codes "{") 9 ∷ a_mark (codes "}") 11 ∷ a_mark (codes ";") 12 ∷ behind) to → ⊥
-empty_union scope u behind to p =
+-- `union U { };` is not a union, whatever follows it.
+pub empty_union : (scope : List (List ℕ)) (u : UnionDecl) (following to : List Token) →
+    union_decl scope u (a_reserved (codes "union") 1 ∷ a_word (codes "U") 7 ∷ a_mark (codes "{") 9 ∷ a_mark (codes "}") 11 ∷ a_mark (codes ";") 12 ∷ following) to → ⊥
+empty_union scope u following to p =
     let before = no_attribute u.attributes _ _ _ refl p.1.1 in
     let the_union = p.1.2 in
     let the_name = the_union.2 in
     let the_brace = the_name.2 in
     let all = the_brace.2 in
-    let begin : the_brace.0 ≡ a_mark (codes "}") 11 ∷ a_mark (codes ";") 12 ∷ behind = cc (before, the_union.1.1, the_name.1.1, the_brace.1.1) in
+    let begin : the_brace.0 ≡ a_mark (codes "}") 11 ∷ a_mark (codes ";") 12 ∷ following = cc (before, the_union.1.1, the_name.1.1, the_brace.1.1) in
     p.0 (no_component u.components _ _ _ refl (subst (λ (from : List Token). components u.components from all.0) begin all.1))

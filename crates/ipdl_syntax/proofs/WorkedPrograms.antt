@@ -1,4 +1,4 @@
--- A worked program: a protocol file that includes a header. Neighbours of it that are wrong in one part are none.
+-- A worked program: a protocol file that includes a header. Variants of it that are wrong in one part are not programs.
 use Rattle.std.proofs.Common.{◌≡◌, ◌≢◌, ℕ, zero, suc, false, List, [], ◌∷◌, Option, Some, None, slice_get, get_or, codes, refl, ap, subst, arith}
 use Rattle.std.specs.List.{AllPairs}
 use Rattle.std.proofs.lemmas.List.Elements.{All-from_recursion}
@@ -89,7 +89,7 @@ a_header = record {
 abbrev header_file : List ℕ → Entry
 header_file key = record { key = key; name = codes "B.ipdlh"; unit = a_header; includes = [] }
 
--- both files: the header's key, the message's name, the file of its place, and the index that stands for the include
+-- both files, by the header's key, the message's name, the file of its place, and the index of the include
 abbrev both_files : List ℕ → List ℕ → ℕ → ℕ → List Entry
 both_files key name number index = protocol_file name number index ∷ header_file key ∷ []
 
@@ -169,19 +169,19 @@ other_keys =
 pub is_program : IsProgram worked
 is_program = record { few = omega arith; distinct = other_keys; entries = worked_entries }
 
--- Two files of one key are no program.
+-- Two files with the same key are not a program.
 pub one_key : IsProgram (both_files (codes "PA.ipdl") (codes "Go") 0 1) → ⊥
 one_key is = is.distinct 0 1 (header_file (codes "PA.ipdl")) (omega arith) (omega arith) refl
 
--- Nor is one with a message whose name is no word,
+-- Files with a message whose name is not a word are not a program,
 pub no_word : IsProgram (both_files (codes "B.ipdlh") (codes "1o") 0 1) → ⊥
 no_word is = let name = (is.entries 0 _ refl).words.protocol.messages.0.name in cc
 
--- or with a place of another file,
+-- nor with a place of another file,
 pub another_file : IsProgram (both_files (codes "B.ipdlh") (codes "Go") 1 1) → ⊥
 another_file is = let place = (is.entries 0 _ refl).places.protocol.messages.0.place in omega arith
 
--- or with an index behind the last file.
+-- nor with an index after the last file.
 pub no_such_index : IsProgram (both_files (codes "B.ipdlh") (codes "Go") 0 2) → ⊥
 no_such_index is = let below = (is.entries 0 _ refl).below.0 in omega arith
 

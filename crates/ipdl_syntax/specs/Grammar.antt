@@ -27,7 +27,7 @@ use Rattle.ipdl_syntax.specs.Parts.{Part, nothing, ◌⨾◌, either, token, mar
 
 -- Names
 
--- words with `::` between each two
+-- words, each with `::` before it
 abbrev pub words : List (List ℕ) → Part
 words [] = nothing
 words (w ∷ ws) = mark (codes "::") ⨾ word w ⨾ words ws
@@ -36,7 +36,7 @@ words (w ∷ ws) = mark (codes "::") ⨾ word w ⨾ words ws
 abbrev pub qualified : List ℕ → Part
 qualified name from to = (first : List ℕ) × (others : List (List ℕ)) × (name ≡ joined (first ∷ others)) × (word first ⨾ words others) from to
 
--- the argument of a name, as `<A::B>`, where it has one
+-- the argument of a name, as `<A::B>`, if it has one
 abbrev pub argument : Option (List ℕ) → Part
 argument None = nothing
 argument (Some name) = mark (codes "<") ⨾ qualified name ⨾ mark (codes ">")
@@ -87,19 +87,19 @@ abbrev pub nullable_word : Bool → Part
 nullable_word true = reserved (codes "nullable")
 nullable_word false = nothing
 
--- a type round its base: perhaps `nullable`, the base at the type's place, and at most four suffixes
+-- a type around its base: perhaps `nullable`, the base at the type's place, and at most four suffixes
 abbrev pub type_round : Bool → Part → List Suffix → Place → Part
 type_round nullable base after place =
     provided (length after ≤ 4) (nullable_word nullable ⨾ at place base ⨾ suffixes after)
 
--- a base, with room for so many UniquePtr inside one another
+-- a base, with room for this number of nested UniquePtr
 abbrev pub base : ℕ → Base → Part
 base room (Named name inner) = named name inner
 base room (Unique' _ nullable inner after place) =
     provided (0 < room)
     (reserved (codes "UniquePtr") ⨾ mark (codes "<") ⨾ type_round nullable (base (room - 1) inner) after place ⨾ mark (codes ">"))
 
--- a type, with at most four UniquePtr inside one another
+-- a type, with at most four nested UniquePtr
 abbrev pub type_spec : TypeSpec → Part
 type_spec spec = type_round spec.nullable (base 4 spec.base) spec.suffixes spec.place
 
@@ -112,7 +112,7 @@ abbrev pub more_params : List Param → Part
 more_params [] = nothing
 more_params (p ∷ rest) = mark (codes ",") ⨾ param p ⨾ more_params rest
 
--- parameters joined by commas, perhaps none
+-- any number of parameters, joined by commas
 abbrev pub params : List Param → Part
 params [] = nothing
 params (p ∷ rest) = param p ⨾ more_params rest
@@ -154,7 +154,7 @@ abbrev pub sections : List MessageSection → Part
 sections [] = nothing
 sections (s ∷ rest) = section s ⨾ sections rest
 
--- a statement on who manages: the protocol's managers, at least one, or a protocol that it manages
+-- a statement on management: the protocol's managers (at least one), or a protocol that it manages
 pub data Management : Type 0 where
   managed_by : NameAt → List NameAt → Management
   manages : NameAt → Management
@@ -181,7 +181,7 @@ abbrev pub managed_of : Management → List NameAt
 managed_of (managed_by first others) = []
 managed_of (manages n) = n ∷ []
 
--- the word that says how a protocol's messages are sent; without one they are async
+-- the word that gives a protocol's semantics; without one it is async
 abbrev pub protocol_semantics : Semantics → Part
 protocol_semantics Sync = reserved (codes "sync")
 protocol_semantics Async = either nothing (reserved (codes "async"))
@@ -215,7 +215,7 @@ union_decl scope u =
     provided (u.components ≢ [])
     (attributes u.attributes ⨾ reserved (codes "union") ⨾ declared scope u.full u.place ⨾ mark (codes "{") ⨾ components u.components ⨾ mark (codes "}") ⨾ mark (codes ";"))
 
--- what another language declares, as a name with its whole text
+-- what another language declares, as a name with its full text
 abbrev pub foreign_name : List ℕ → Part
 foreign_name full from to = (name : List ℕ) × (inner : Option (List ℕ)) × (full ≡ whole_name name inner) × named name inner from to
 
@@ -234,14 +234,14 @@ include i = reserved (codes "include") ⨾ included i.kind i.name i.place ⨾ ma
 
 -- Files
 
--- what stands in a namespace beside the protocol, in text order
+-- the declarations in a namespace but the protocol, in text order
 pub data Inside : Type 0 where
   inside_end : Inside
   inside_struct : StructDecl → Inside → Inside
   inside_union : UnionDecl → Inside → Inside
   inside_namespace : List ℕ → Inside → Inside → Inside
 
--- what stands in a file outside of all namespaces, beside the protocol
+-- the declarations in a file outside of all namespaces but the protocol, in text order
 pub data Outside : Type 0 where
   outside_end : Outside
   outside_include : Include → Outside → Outside
@@ -250,16 +250,16 @@ pub data Outside : Type 0 where
   outside_union : UnionDecl → Outside → Outside
   outside_namespace : List ℕ → Inside → Outside → Outside
 
--- the protocol, perhaps in namespaces, each with what stands there before it and behind it
+-- the protocol, perhaps in namespaces, each with the declarations before and after it
 pub data Holder : Type 0 where
   holder_protocol : ProtocolDecl → Holder
   holder_namespace : List ℕ → Inside → Holder → Inside → Holder
 
--- a namespace round what it holds
+-- a namespace around its content
 abbrev pub in_namespace : List ℕ → Part → Part
 in_namespace name held = reserved (codes "namespace") ⨾ word name ⨾ mark (codes "{") ⨾ held ⨾ mark (codes "}")
 
--- the declarations of a namespace, with room for so many namespaces inside one another
+-- the declarations of a namespace, with room for this number of nested namespaces
 abbrev pub inside : ℕ → List (List ℕ) → Inside → Part
 inside room scope inside_end = nothing
 inside room scope (inside_struct s rest) = struct_decl scope s ⨾ inside room scope rest
@@ -276,7 +276,7 @@ outside (outside_struct s rest) = struct_decl [] s ⨾ outside rest
 outside (outside_union u rest) = union_decl [] u ⨾ outside rest
 outside (outside_namespace name held rest) = in_namespace name (inside 15 (name ∷ []) held) ⨾ outside rest
 
--- the one protocol, with room for so many namespaces inside one another
+-- the one protocol, with room for this number of nested namespaces
 abbrev pub holder : ℕ → List (List ℕ) → Holder → Part
 holder room scope (holder_protocol p) = protocol scope p
 holder room scope (holder_namespace name before held after) =

@@ -1,10 +1,10 @@
--- Parts of a text: what stands from one point in a list of tokens to another.
+-- Parts of a text: the tokens from one point in a list of tokens to another.
 use Rattle.std.specs.Prelude.{◌≡◌, ℕ, ◌⊎◌, List, ◌∷◌}
 use Rattle.ipdl_base.specs.declared.finding.Place.{Place}
 use Rattle.ipdl_base.specs.declared.token.Token.{Token}
 use Rattle.ipdl_base.specs.declared.token.TokenKind.TheVariants.{Word, Reserved, Quoted, Mark}
 
--- A part relates the tokens from its begin on to those that are left behind its end.
+-- A part relates the tokens from its beginning on to the tokens that are left after its end.
 abbrev pub Part : Type 1
 Part = List Token → List Token → Type 0
 
@@ -13,7 +13,7 @@ abbrev pub nothing : Part
 nothing from to = from ≡ to
 
 infixr 4 ◌⨾◌
--- one part, and behind it another
+-- one part, and then another
 abbrev pub ◌⨾◌ : Part → Part → Part
 (first ⨾ second) from to = (middle : List Token) × first from middle × second middle to
 
@@ -21,7 +21,7 @@ abbrev pub ◌⨾◌ : Part → Part → Part
 abbrev pub either : Part → Part → Part
 either one other from to = one from to ⊎ other from to
 
--- one token, of which this holds
+-- one token with this property
 abbrev pub token : (Token → Type 0) → Part
 token IsIt from to = (t : Token) × (from ≡ t ∷ to) × IsIt t
 
@@ -45,7 +45,7 @@ identifier name place = token (λ t. (t.kind ≡ Word) × (t.text ≡ name) × (
 abbrev pub quoted : List ℕ → Place → Part
 quoted text place = token (λ t. (t.kind ≡ Quoted) × (t.text ≡ text) × (t.place ≡ place))
 
--- a part whose first token stands at this place
+-- a part whose first token is at this place
 abbrev pub at : Place → Part → Part
 at place part from to = (t : Token) × (rest : List Token) × (from ≡ t ∷ rest) × (t.place ≡ place) × part from to
 

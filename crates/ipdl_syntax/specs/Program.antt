@@ -61,12 +61,12 @@ abbrev pub declared_round : Holder → Declarations
 declared_round (holder_protocol p) = no_declaration
 declared_round (holder_namespace name before held after) = declared_inside before & declared_round held & declared_inside after
 
--- the protocol that is held
+-- the protocol inside the namespaces
 abbrev pub protocol_of : Holder → ProtocolDecl
 protocol_of (holder_protocol p) = p
 protocol_of (holder_namespace name before held after) = protocol_of held
 
--- a file that declares this, with its protocol where it has one
+-- a file that declares this, with its protocol, if it has one
 abbrev pub unit_of : Declarations → Option ProtocolDecl → FileUnit
 unit_of all protocol = record {
   includes = all.includes;
@@ -76,7 +76,7 @@ unit_of all protocol = record {
   protocol = protocol;
 }
 
--- The tree of a file's tokens: all tokens are a header's, or a protocol file's, and the unit is what it declares.
+-- The tree of a file's tokens: all tokens form a header or a protocol file, and the unit is what it declares.
 abbrev pub Tree : FileKind → List Token → FileUnit → Type 0
 Tree file.Header tokens unit =
     (all : Outside) × header all tokens [] × (unit ≡ unit_of (declared_outside all) None)

@@ -1,4 +1,4 @@
--- What a program is: the files that are reached, in their order.
+-- What a program is: the files that are reached, in the order in which they are reached.
 use Rattle.std.specs.Prelude.{◌≡◌, ◌≢◌, ℕ, ◌≤◌, ◌<◌, List, [], ◌∷◌, ◌++◌, map, length, slice_get, Option, Some, IfSome, codes}
 use Rattle.std.specs.List.{AllPairs, AllByRecursion, flat_map}
 use Rattle.ipdl_base.specs.Words.{short_name}
@@ -15,7 +15,7 @@ abbrev pub ending : FileKind → List ℕ
 ending file.Protocol = codes ".ipdl"
 ending file.Header = codes ".ipdlh"
 
--- the key of the file that an include names; a quoted text names none
+-- the key of the file that an include names; a quoted text names no file
 abbrev pub named_key : IncludeKind → List ℕ → List (List ℕ)
 named_key include_kind.Protocol name = (name ++ ending file.Protocol) ∷ []
 named_key include_kind.Header name = (name ++ ending file.Header) ∷ []
@@ -36,8 +36,9 @@ pub record IsKeyed (entry : Entry) : Type 0 where
   pub key : entry.key ≡ front ++ ending kind
   pub unit : IsOfKind kind entry.unit
 
--- The entry at this index of a program: its names are words, its places bear the index, and its includes have one
--- index for each include that names a file, in text order, which is that of the entry with the key of that file.
+-- The entry at this index of a program: its names are words and its places are in the file of this index. Its
+-- includes have one index for each include that names a file, in text order: that of the entry with the key of that
+-- file.
 pub record IsEntry (program : List Entry) (index : ℕ) (entry : Entry) : Type 0 where
   pub keyed : IsKeyed entry
   pub words : HasWords entry.unit
@@ -45,12 +46,12 @@ pub record IsEntry (program : List Entry) (index : ℕ) (entry : Entry) : Type 0
   pub below : AllByRecursion (λ i. i < length program) entry.includes
   pub includes : map (key_at program) entry.includes ≡ map Some (named_keys entry.unit.includes)
 
--- A program: at most 4,096 files, no two of one key, each as an entry at its index has to be.
+-- A program: at most 4,096 files with distinct keys, each an entry at its index.
 pub record IsProgram (program : List Entry) : Type 0 where
   pub few : length program ≤ 4096
   pub distinct : AllPairs (λ a b. a.key ≢ b.key) program
   pub entries : (index : ℕ) (entry : Entry) → slice_get program index ≡ Some entry → IsEntry program index entry
 
--- the protocol of each file has the name of its file
+-- the protocol of each file has the name of the file
 abbrev pub BearTheirNames : List Entry → Type 0
 BearTheirNames program = AllByRecursion (λ e. IfSome e.unit.protocol (λ p. e.key ≡ short_name p.full ++ ending file.Protocol)) program

@@ -19,7 +19,7 @@ use Rattle.ipdl_syntax.specs.declared.tree.UnionDecl.{UnionDecl}
 use Rattle.ipdl_syntax.specs.declared.tree.Unit.{Unit as FileUnit}
 use Rattle.ipdl_syntax.specs.declared.tree.Using.{Using}
 
--- The tree of a protocol file has a protocol, and that of a header has none.
+-- The tree of a protocol file has a protocol, and that of a header has no protocol.
 abbrev pub IsOfKind : FileKind → FileUnit → Type 0
 IsOfKind file.Protocol unit = IsSome unit.protocol
 IsOfKind file.Header unit = IsNone unit.protocol
@@ -31,7 +31,7 @@ abbrev pub BaseHasWords : Base → Type 0
 BaseHasWords (Named name inner) = IsFullName name × IfSome inner IsFullName
 BaseHasWords (Unique' _ nullable inner after place) = BaseHasWords inner
 
--- so in a type
+-- the same of a type
 abbrev pub TypeHasWords : TypeSpec → Type 0
 TypeHasWords spec = BaseHasWords spec.base
 
@@ -40,13 +40,13 @@ pub record ParamHasWords (p : Param) : Type 0 where
   pub spec : TypeHasWords p.spec
   pub name : IsWord p.name
 
--- a message, its parameters and its returns are
+-- a message, its parameters and its returns are named by words
 pub record MessageHasWords (m : MessageDecl) : Type 0 where
   pub name : IsWord m.name
   pub params : AllByRecursion ParamHasWords m.params
   pub returns : IfSome m.returns (AllByRecursion ParamHasWords)
 
--- protocols that another names
+-- the protocols that another protocol names are words
 abbrev pub NamesHaveWords : List NameAt → Type 0
 NamesHaveWords names = AllByRecursion (λ n. IsWord n.name) names
 
@@ -57,12 +57,12 @@ pub record ProtocolHasWords (p : ProtocolDecl) : Type 0 where
   pub manages : NamesHaveWords p.manages
   pub messages : AllByRecursion MessageHasWords p.messages
 
--- so of a struct
+-- a struct's full name and the names in its fields are of words
 pub record StructHasWords (s : StructDecl) : Type 0 where
   pub full : IsFullName s.full
   pub fields : AllByRecursion ParamHasWords s.fields
 
--- so of a union
+-- a union's full name and the names in its components are of words
 pub record UnionHasWords (u : UnionDecl) : Type 0 where
   pub full : IsFullName u.full
   pub components : AllByRecursion TypeHasWords u.components
@@ -86,38 +86,38 @@ pub record HasWords (unit : FileUnit) : Type 0 where
 abbrev pub IsIn : ℕ → Place → Type 0
 IsIn number place = place.file ≡ number
 
--- each attribute is
+-- each attribute is in this file
 abbrev pub AttributesAreIn : ℕ → List Attribute → Type 0
 AttributesAreIn number attributes = AllByRecursion (λ a. IsIn number a.place) attributes
 
--- the types inside a base are
+-- the types inside a base are in this file
 abbrev pub BaseIsIn : ℕ → Base → Type 0
 BaseIsIn number (Named name inner) = Unit {0}
 BaseIsIn number (Unique' _ nullable inner after place) = IsIn number place × BaseIsIn number inner
 
--- a type is, with the types inside it
+-- a type and the types inside it are in this file
 pub record TypeIsIn (number : ℕ) (spec : TypeSpec) : Type 0 where
   pub place : IsIn number spec.place
   pub base : BaseIsIn number spec.base
 
--- a parameter, a return or a field is, with all its parts
+-- a parameter, a return or a field is in this file, with all its parts
 pub record ParamIsIn (number : ℕ) (p : Param) : Type 0 where
   pub place : IsIn number p.place
   pub spec : TypeIsIn number p.spec
   pub attributes : AttributesAreIn number p.attributes
 
--- so a message
+-- a message is in this file, with all its parts
 pub record MessageIsIn (number : ℕ) (m : MessageDecl) : Type 0 where
   pub place : IsIn number m.place
   pub params : AllByRecursion (ParamIsIn number) m.params
   pub returns : IfSome m.returns (AllByRecursion (ParamIsIn number))
   pub attributes : AttributesAreIn number m.attributes
 
--- so names
+-- these names are in this file
 abbrev pub NamesAreIn : ℕ → List NameAt → Type 0
 NamesAreIn number names = AllByRecursion (λ n. IsIn number n.place) names
 
--- so a protocol
+-- a protocol is in this file, with all its parts
 pub record ProtocolIsIn (number : ℕ) (p : ProtocolDecl) : Type 0 where
   pub place : IsIn number p.place
   pub managers : NamesAreIn number p.managers
@@ -125,19 +125,19 @@ pub record ProtocolIsIn (number : ℕ) (p : ProtocolDecl) : Type 0 where
   pub messages : AllByRecursion (MessageIsIn number) p.messages
   pub attributes : AttributesAreIn number p.attributes
 
--- so a struct
+-- a struct is in this file, with all its parts
 pub record StructIsIn (number : ℕ) (s : StructDecl) : Type 0 where
   pub place : IsIn number s.place
   pub fields : AllByRecursion (ParamIsIn number) s.fields
   pub attributes : AttributesAreIn number s.attributes
 
--- so a union
+-- a union is in this file, with all its parts
 pub record UnionIsIn (number : ℕ) (u : UnionDecl) : Type 0 where
   pub place : IsIn number u.place
   pub components : AllByRecursion (TypeIsIn number) u.components
   pub attributes : AttributesAreIn number u.attributes
 
--- so what `using` declares
+-- what `using` declares is in this file, with its attributes
 pub record UsingIsIn (number : ℕ) (u : Using) : Type 0 where
   pub place : IsIn number u.place
   pub attributes : AttributesAreIn number u.attributes

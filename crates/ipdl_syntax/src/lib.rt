@@ -1,4 +1,4 @@
-//! The tree of a file, the grammar that says which tokens it belongs to, and the programs that files make.
+//! The tree of a file, the grammar that relates trees to tokens, and the programs that files make.
 #![tactic(auto)]
 
 mod program;

@@ -1,6 +1,8 @@
+//! The tree of a file, one type for each form of the grammar.
+
 use ipdl_base::{Direction, Items, Name, Place, Semantics};
 
-/// The two kinds of file: a protocol file defines one protocol, and a header none.
+/// The two kinds of file. A protocol file defines one protocol, a header defines no protocol.
 #[derive(Clone, Copy, Debug, PartialEq, Eq)]
 pub enum FileKind {
     /// A `.ipdl` file.
@@ -9,14 +11,18 @@ pub enum FileKind {
     Header,
 }
 
-/// What a file says. Each list is in text order.
+/// The tree of a file: what the file declares. Each list is in text order.
 #[derive(Drop)]
 pub struct Unit {
+    /// The includes.
     pub includes: Includes,
+    /// The usings.
     pub usings: Usings,
+    /// The structs.
     pub structs: StructDecls,
+    /// The unions.
     pub unions: UnionDecls,
-    /// The protocol, in a protocol file; a header has none.
+    /// The protocol of a protocol file, or `None` for a header.
     pub protocol: Option<ProtocolDecl>,
 }
 
@@ -27,11 +33,11 @@ pub enum IncludeKind {
     Protocol,
     /// `include NAME;`
     Header,
-    /// `include "TEXT";`, which names no file that is read.
+    /// `include "TEXT";`. No file is read for it.
     Quoted,
 }
 
-/// An include, with the place of the name; a quoted name keeps its quotes.
+/// An include, with the place of its name. A quoted name keeps its quotes.
 #[derive(Drop)]
 pub struct Include {
     pub kind: IncludeKind,
@@ -39,7 +45,7 @@ pub struct Include {
     pub place: Place,
 }
 
-/// A type that another language declares, with its whole text and the place of that.
+/// A type that another language declares, with its full text and the place of this text.
 #[derive(Drop)]
 pub struct Using {
     pub full: Name,
@@ -72,7 +78,9 @@ pub struct ProtocolDecl {
     pub full: Name,
     pub place: Place,
     pub semantics: Semantics,
+    /// The protocols that manage this one.
     pub managers: NamesAt,
+    /// The protocols that this one manages.
     pub manages: NamesAt,
     pub messages: MessageDecls,
     pub attributes: Attributes,
@@ -93,6 +101,7 @@ pub struct MessageDecl {
     pub direction: Direction,
     pub semantics: Semantics,
     pub params: Params,
+    /// The parameters of its reply, or `None` for a message without `returns`.
     pub returns: Option<Params>,
     pub attributes: Attributes,
 }
@@ -106,11 +115,11 @@ pub struct Param {
     pub attributes: Attributes,
 }
 
-/// A type as it is written. Its place is that of its first token behind `nullable`.
+/// A type as it is written. Its place is that of its first token after `nullable`.
 #[cycle(type_spec)]
 #[derive(Drop)]
 pub struct TypeSpec {
-    /// Whether `nullable` stands before the base.
+    /// Whether the type begins with `nullable`.
     pub nullable: bool,
     pub base: Base,
     /// The suffixes from left to right.
@@ -122,7 +131,7 @@ pub struct TypeSpec {
 #[cycle(type_spec)]
 #[derive(Drop)]
 pub enum Base {
-    /// A name with its namespaces, and the argument in `<` and `>` where it has one.
+    /// A name with its namespaces, and the argument between `<` and `>`, if it has one.
     Named(Name, Option<Name>),
     /// `UniquePtr` of a type.
     Unique(Box<TypeSpec>),
@@ -137,7 +146,7 @@ pub enum Suffix {
     Maybe,
 }
 
-/// An attribute, with the place of its name; a quoted value keeps its quotes.
+/// An attribute, with the place of its name. A quoted value keeps its quotes.
 #[derive(Drop)]
 pub struct Attribute {
     pub name: Name,

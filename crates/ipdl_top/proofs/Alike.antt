@@ -3,7 +3,7 @@ use Rattle.std.proofs.Common.{◌≡◌, ◌≢◌, ◌<◌, ℕ, zero, suc, Lis
 use Rattle.std.specs.Prelude.{Option, Some, slice_get}
 use Rattle.std.specs.List.{AllPairs}
 use Rattle.std.proofs.lemmas.Option.{same_Some}
-use Rattle.ipdl_lex.specs.declared.token.Lexed.{Lexed}
+use Rattle.ipdl_lex.specs.declared.token.LexedText.{LexedText}
 use Rattle.ipdl_lex.specs.Tokens.{IsTokens}
 use Rattle.ipdl_syntax.specs.declared.program.Entry.{Entry}
 use Rattle.ipdl_syntax.specs.declared.tree.FileKind.{FileKind}
@@ -24,7 +24,7 @@ one_unit laws number key held one other u v =
     let bytes : u.bytes ≡ v.bytes = same_Some _ _ (sym u.has ∙ v.has) in
     let lexed : u.lexed ≡ v.lexed = laws.tokens number v.bytes u.lexed v.lexed (subst (λ (text : List ℕ). IsTokens number text u.lexed) bytes u.tokens) v.tokens in
     let kind : u.kind ≡ v.kind = kind_one key u.kind v.kind u.is_kind v.is_kind in
-    let tree : Tree v.kind v.lexed.tokens one = subst (λ (k : FileKind). Tree k v.lexed.tokens one) kind (subst (λ (l : Lexed). Tree u.kind l.tokens one) lexed u.tree) in
+    let tree : Tree v.kind v.lexed.tokens one = subst (λ (k : FileKind). Tree k v.lexed.tokens one) kind (subst (λ (l : LexedText). Tree u.kind l.tokens one) lexed u.tree) in
     laws.tree v.kind v.lexed.tokens one other tree v.tree
 
 -- what is at an index
@@ -34,7 +34,7 @@ at_index [] (suc i) key e = absurd (let no : ⊥ = cc in no)
 at_index (k ∷ keys) zero key e = (omega arith, same_Some k key e)
 at_index (k ∷ keys) (suc i) key e = let h = at_index keys i key e in (omega (arith, h.0), h.1)
 
--- a key of distinct ones stands at one index
+-- a key of distinct ones is at one index
 one_index : (keys : List (List ℕ)) (i j : ℕ) (key : List ℕ) → AllPairs (λ a b. a ≢ b) keys → slice_get keys i ≡ Some key → slice_get keys j ≡ Some key → i ≡ j
 one_index keys i j key once at also =
     let p = at_index keys i key at in
@@ -43,7 +43,7 @@ one_index keys i j key once at also =
     let other : j < i → ⊥ = λ lt. once j i [] lt p.0 (q.1 ∙ sym p.1) in
     omega (arith, one, other)
 
--- so the same keys stand at the same indices
+-- so the same keys are at the same indices
 same_indices : (keys named : List (List ℕ)) (is js : List ℕ) → AllPairs (λ a b. a ≢ b) keys → map (λ i. slice_get keys i) is ≡ map Some named → map (λ i. slice_get keys i) js ≡ map Some named → is ≡ js
 same_indices keys [] [] [] once p q = refl
 same_indices keys [] [] (j ∷ js) once p q = absurd (let no : ⊥ = cc in no)

@@ -1,7 +1,9 @@
--- What follows of an answer to words.
-use Rattle.std.proofs.Common.{◌≡◌, ◌≢◌, ◌⊎◌, ℕ, Bool, true, false, List, [], ◌∷◌, refl, ap, ◌∙◌, sym, inl, inr, true≢false}
+-- What follows from an answer to words.
+use Rattle.std.proofs.Common.{◌≡◌, ◌≢◌, ◌⊎◌, ℕ, Bool, true, false, List, refl, ap, ◌∙◌, sym, inl, inr, true≢false}
 use Rattle.std.specs.Prelude.{Option, Some, None}
 use Rattle.ipdl_base.specs.Outside.{FileMap}
+use Rattle.ipdl_base.specs.declared.files.TheConstants.{MOST_BYTES}
+use Rattle.transcripts.specs.Compared.{most_text_bytes}
 use Rattle.command_words.specs.Command.{CommandView, IsNoCommand, audit, compile, feed, frames, gen, relay, run, waits}
 use Rattle.command_words.specs.Feed.{FeedCourse}
 use Rattle.command_words.specs.Relay.{RelayCourse}
@@ -15,17 +17,20 @@ use Rattle.ipdl_top.specs.declared.rendering.Rendering.{Rendering}
 use Rattle.ipdl_top.specs.declared.rendering.Rendering.TheVariants.{Summary, Transcript}
 use Rattle.ipdl_top.specs.declared.status.Status.{Status}
 use Rattle.ipdl_top.specs.declared.status.Status.TheVariants.{Done, Broken, Usage, ReadFault, WriteFault, Spent, NoMemory, BadScript, BadFrames, BadTranscript}
-use Rattle.ipdl_top.specs.CommandAnswer.{AnswersTo, IsAnswer, IsCompilation, SaysTables, given_by, usage_answer}
-use Rattle.ipdl_top.specs.declared.audited.Audit.{Audit}
-use Rattle.ipdl_top.specs.declared.audited.Audit.TheVariants as audits
-use Rattle.ipdl_top.specs.Audit.{SaysAudit, SaysAuditedOf, audit_answer}
-use Rattle.ipdl_top.specs.Feed.{SaysFedOf, SaysFeed, feed_answer}
-use Rattle.ipdl_top.specs.Frames.{SaysFrames, frames_answer, frames_out}
+use Rattle.ipdl_top.specs.CommandAnswer.{AnswersTo, IsAnswer, IsCompilation, SaysOf, SaysTables, usage_answer}
+use Rattle.ipdl_top.specs.CommandFiles.{files_by, given_by, names_read, seen_by}
+use Rattle.ipdl_top.specs.declared.audit.outcome.Audit.{Audit}
+use Rattle.ipdl_top.specs.declared.audit.outcome.Audit.TheVariants as audits
+use Rattle.ipdl_top.specs.Audit.{SaysAudit, SaysAudited, SaysAuditedOf, audit_answer}
+use Rattle.ipdl_top.specs.Ended.{ended_answer}
+use Rattle.ipdl_top.specs.Feed.{SaysFed, SaysFedOf, SaysFeed, feed_answer}
+use Rattle.ipdl_top.specs.Frames.{SaysBytes, SaysFrames, frames_answer, frames_out}
 use Rattle.ipdl_top.specs.FileViews.{FileViews, ForMap, steady}
-use Rattle.ipdl_top.specs.Gen.{SaysGen, case_course, case_files, case_path, holder_name, script_name}
-use Rattle.ipdl_top.specs.Relay.{Relaying, SaysRelay, SaysRelayed, halves_text, relay_answer}
+use Rattle.ipdl_top.specs.Gen.{case_course, case_files, holder_name, script_name}
+use Rattle.ipdl_top.specs.Inputs.{SaysByFile, absent_answer, larger_answer}
+use Rattle.ipdl_top.specs.Relay.{Relaying, SaysRelay, SaysRelayed, halves_text}
 use Rattle.ipdl_top.specs.Run.{Driving, SaysHistory, SaysRun, run_answer}
-use Rattle.ipdl_top.specs.Scripts.{SaysOfHeld}
+use Rattle.ipdl_top.specs.Scripts.{SaysOfHeld, SaysOfText, unreadable_answer}
 use Rattle.ipdl_top.specs.Waits.{SaysWaits}
 use Rattle.ipdl_base.specs.declared.line.Line.{Line}
 use Rattle.handler_script.specs.declared.script.Script.{Script}
@@ -39,7 +44,7 @@ use Rattle.ipdl_top.proofs.Views.{for_each_view, of_reads}
 status_of : (a b : CommandAnswer) → a ≡ b → a.status ≡ b.status
 status_of a b e = ap (λ (x : CommandAnswer). x.status) e
 
--- whether a command ends so, where reads and memory do not fail
+-- whether a command ends so, if reads and memory do not fail
 abbrev is_said : Status → Bool
 is_said Done = true
 is_said Broken = true
@@ -63,10 +68,17 @@ listed : (name out : List ℕ) (fault : Option FrameListFault) → IsSaidSo (fra
 listed name out None = refl
 listed name out (Some fault) = refl
 
-of_frames : (name : List ℕ) (convert : Bool) (held : Option (List ℕ)) (schema : Schema) (answer : CommandAnswer) → SaysFrames name convert held schema answer → IsSaidSo answer
-of_frames name convert None schema answer says = said_so _ _ says refl
-of_frames name convert (Some bytes) schema answer (inl larger) = said_so _ _ larger.1 refl
-of_frames name convert (Some bytes) schema answer (inr told) = said_so _ _ told.1.says (listed name (frames_out convert schema told.1.frames) told.1.fault)
+-- and so is that by a file
+of_file : (absent larger : CommandAnswer) (most : ℕ) (Says : List ℕ → CommandAnswer → Type 0) → IsSaidSo absent → IsSaidSo larger → ((bytes : List ℕ) (answer : CommandAnswer) → Says bytes answer → IsSaidSo answer)
+    → (held : Option (List ℕ)) (answer : CommandAnswer) → SaysByFile absent larger most Says held answer → IsSaidSo answer
+of_file absent larger most Says none many so None answer says = said_so _ _ says none
+of_file absent larger most Says none many so (Some bytes) answer (inl says) = said_so _ _ says.1 many
+of_file absent larger most Says none many so (Some bytes) answer (inr says) = so bytes answer says.1
+
+of_frames : (name : List ℕ) (convert : Bool) (bytes : Option (List ℕ)) (schema : Schema) (answer : CommandAnswer) → SaysFrames name convert bytes schema answer → IsSaidSo answer
+of_frames name convert bytes schema answer says =
+    of_file (absent_answer BadFrames name) (larger_answer BadFrames name) MOST_BYTES (λ bytes. SaysBytes name convert bytes schema) refl refl
+    (λ bytes answer told. said_so _ _ told.says (listed name (frames_out convert schema told.frames) told.fault)) bytes answer says
 
 of_waits : (file : List ℕ) (schema : Schema) (answer : CommandAnswer) → SaysWaits file schema answer → IsSaidSo answer
 of_waits file schema answer told = said_so _ _ told.says refl
@@ -78,12 +90,15 @@ of_lines shown schema lines (at_limit side) = refl
 of_history : (Gives : Driving) (shown : Rendering) (course : Course) (schema : Schema) (script : Script) (answer : CommandAnswer) → SaysHistory Gives shown course schema script answer → IsSaidSo answer
 of_history Gives shown course schema script answer told = said_so _ _ told.says (of_lines shown schema told.after.state.lines told.ending)
 
+of_text : (Says : Script → CommandAnswer → Type 0) → ((script : Script) (answer : CommandAnswer) → Says script answer → IsSaidSo answer)
+    → (name text : List ℕ) (schema : Schema) (top : ℕ) (answer : CommandAnswer) → SaysOfText Says name text schema top answer → IsSaidSo answer
+of_text Says so name text schema top answer (inl broken) = said_so _ _ broken.says refl
+of_text Says so name text schema top answer (inr told) = so told.script answer told.says
+
 of_held : (Says : Script → CommandAnswer → Type 0) → ((script : Script) (answer : CommandAnswer) → Says script answer → IsSaidSo answer)
-    → (name : List ℕ) (held : Option (List ℕ)) (schema : Schema) (top : ℕ) (answer : CommandAnswer) → SaysOfHeld Says name held schema top answer → IsSaidSo answer
-of_held Says so name None schema top answer says = said_so _ _ says refl
-of_held Says so name (Some text) schema top answer (inl larger) = said_so _ _ larger.1 refl
-of_held Says so name (Some text) schema top answer (inr (small, inl broken)) = said_so _ _ broken.says refl
-of_held Says so name (Some text) schema top answer (inr (small, inr told)) = so told.script answer told.says
+    → (name : List ℕ) (text : Option (List ℕ)) (schema : Schema) (top : ℕ) (answer : CommandAnswer) → SaysOfHeld Says name text schema top answer → IsSaidSo answer
+of_held Says so name text schema top answer says =
+    of_file (unreadable_answer name) (unreadable_answer name) MOST_BYTES (λ text. SaysOfText Says name text schema top) refl refl (λ text. of_text Says so name text schema top) text answer says
 
 of_run : (Gives : Driving) (shown : Rendering) (course : Course) (name : List ℕ) (held : Option (List ℕ)) (file : List ℕ) (schema : Schema) (answer : CommandAnswer) → SaysRun Gives shown course name held file schema answer → IsSaidSo answer
 of_run Gives shown course name held file schema answer told = of_held (SaysHistory Gives shown course schema) (of_history Gives shown course schema) name held schema told.top answer told.says
@@ -94,9 +109,9 @@ ended schema name side lines None false = refl
 ended schema name side lines (Some fault) false = refl
 
 of_fed : (course : FeedCourse) (name : List ℕ) (bytes : Option (List ℕ)) (schema : Schema) (script : Script) (answer : CommandAnswer) → SaysFedOf course name bytes schema script answer → IsSaidSo answer
-of_fed course name None schema script answer says = said_so _ _ says refl
-of_fed course name (Some bytes) schema script answer (inl larger) = said_so _ _ larger.1 refl
-of_fed course name (Some bytes) schema script answer (inr told) = said_so _ _ told.1.says (ended schema name course.side told.1.lines told.1.kept told.1.spent)
+of_fed course name bytes schema script answer says =
+    of_file (absent_answer BadFrames name) (larger_answer BadFrames name) MOST_BYTES (λ bytes. SaysFed course name bytes schema script) refl refl
+    (λ bytes answer told. said_so _ _ told.says (ended schema name course.side told.lines told.kept told.spent)) bytes answer says
 
 of_feed : (course : FeedCourse) (script : List ℕ) (held : Option (List ℕ)) (name : List ℕ) (bytes : Option (List ℕ)) (file : List ℕ) (schema : Schema) (answer : CommandAnswer)
     → SaysFeed course script held name bytes file schema answer → IsSaidSo answer
@@ -108,15 +123,15 @@ found name (audits.Early at) = refl
 found name (audits.NoStep at) = refl
 
 of_audited : (limit : ℕ) (name : List ℕ) (text : Option (List ℕ)) (schema : Schema) (script : Script) (answer : CommandAnswer) → SaysAuditedOf limit name text schema script answer → IsSaidSo answer
-of_audited limit name None schema script answer says = said_so _ _ says refl
-of_audited limit name (Some text) schema script answer (inl larger) = said_so _ _ larger.1 refl
-of_audited limit name (Some text) schema script answer (inr told) = said_so _ _ told.1.says (found name told.1.found)
+of_audited limit name text schema script answer says =
+    of_file (absent_answer BadTranscript name) (larger_answer BadTranscript name) most_text_bytes (λ text. SaysAudited limit name text schema script) refl refl
+    (λ text answer told. said_so _ _ told.says (found name told.found)) text answer says
 
 of_audit : (limit : ℕ) (script : List ℕ) (held : Option (List ℕ)) (name : List ℕ) (text : Option (List ℕ)) (file : List ℕ) (schema : Schema) (answer : CommandAnswer)
     → SaysAudit limit script held name text file schema answer → IsSaidSo answer
 of_audit limit script held name text file schema answer told = of_held (SaysAuditedOf limit name text schema) (of_audited limit name text schema) script held schema told.top answer told.says
 
-of_ending : (text : List ℕ) (ending : RunEnding) → IsSaidSo (relay_answer text ending)
+of_ending : (text : List ℕ) (ending : RunEnding) → IsSaidSo (ended_answer text ending)
 of_ending text at_rest = refl
 of_ending text (at_limit side) = refl
 
@@ -133,20 +148,21 @@ compiled Says none given lists list answer (inl h) = said_so _ _ h.says refl
 compiled Says none given lists list answer (inr (inl h)) = said_so _ _ h.says refl
 compiled Says none given lists list answer (inr (inr h)) = none h.schema answer h.says
 
+of_says : (Gives : Driving) (Relays : Relaying) (seen : FileViews) (command : CommandView) (schema : Schema) (answer : CommandAnswer) → SaysOf Gives Relays seen command schema answer → IsSaidSo answer
+of_says Gives Relays seen (compile list path names) = of_tables
+of_says Gives Relays seen (frames list path file name convert) = of_frames name convert (seen.input name)
+of_says Gives Relays seen (waits list path file) = of_waits file
+of_says Gives Relays seen (run list path course script file) = of_run Gives Transcript course script (seen.script script) file
+of_says Gives Relays seen (gen rounds actors) = of_run Gives (Summary rounds actors) case_course script_name (case_files rounds actors script_name) holder_name
+of_says Gives Relays seen (feed list path course script file name) = of_feed course script (seen.script script) name (seen.input name) file
+of_says Gives Relays seen (audit list path limit script file name) = of_audit limit script (seen.script script) name (seen.input name) file
+of_says Gives Relays seen (relay list path course script file) = of_relay Relays course script (seen.script script) file
+
 of_command : (Gives : Driving) (Relays : Relaying) (seen : FileViews) (command : CommandView) (answer : CommandAnswer) → AnswersTo Gives Relays seen command answer → IsSaidSo answer
-of_command Gives Relays seen (compile list path names) answer h = compiled SaysTables of_tables (given_by seen.files path names) seen.list list answer h
-of_command Gives Relays seen (frames list path file name convert) answer h = compiled (SaysFrames name convert (seen.input name)) (of_frames name convert (seen.input name)) (given_by seen.files path (file ∷ [])) seen.list list answer h
-of_command Gives Relays seen (waits list path file) answer h = compiled (SaysWaits file) (of_waits file) (given_by seen.files path (file ∷ [])) seen.list list answer h
-of_command Gives Relays seen (run list path course script file) answer h =
-    compiled (SaysRun Gives Transcript course script (seen.script script) file) (of_run Gives Transcript course script (seen.script script) file) (given_by seen.files path (file ∷ [])) seen.list list answer h
-of_command Gives Relays seen (gen rounds actors) answer h =
-    compiled (SaysGen Gives rounds actors) (of_run Gives (Summary rounds actors) case_course script_name (case_files rounds actors script_name) holder_name) (given_by (case_files rounds actors) case_path (holder_name ∷ [])) (case_files rounds actors) None answer h
-of_command Gives Relays seen (feed list path course script file name) answer h =
-    compiled (SaysFeed course script (seen.script script) name (seen.input name) file) (of_feed course script (seen.script script) name (seen.input name) file) (given_by seen.files path (file ∷ [])) seen.list list answer h
-of_command Gives Relays seen (audit list path limit script file name) answer h =
-    compiled (SaysAudit limit script (seen.script script) name (seen.input name) file) (of_audit limit script (seen.script script) name (seen.input name) file) (given_by seen.files path (file ∷ [])) seen.list list answer h
-of_command Gives Relays seen (relay list path course script file) answer h =
-    compiled (SaysRelay Relays course script (seen.script script) file) (of_relay Relays course script (seen.script script) file) (given_by seen.files path (file ∷ [])) seen.list list answer h
+of_command Gives Relays seen command answer h =
+    let names = names_read (files_by command) in
+    let views = seen_by (files_by command) seen in
+    compiled (SaysOf Gives Relays views command) (of_says Gives Relays views command) (given_by views.files names.path names.program) views.list names.list answer h
 
 -- words that are no command have the usage answer
 pub of_no_command : (Gives : Driving) (Relays : Relaying) (seen : FileViews) (words : List (List ℕ)) (answer : CommandAnswer) → IsNoCommand words → IsAnswer Gives Relays seen words answer → answer ≡ usage_answer
@@ -158,24 +174,24 @@ pub no_command_of : (Gives : Driving) (Relays : Relaying) (seen : FileViews) (wo
 no_command_of Gives Relays seen words answer usage (inl h) = absurd (true≢false (sym (of_command Gives Relays seen h.command answer h.answers) ∙ ap is_said usage))
 no_command_of Gives Relays seen words answer usage (inr h) = h.0
 
--- an answer is none where a read failed or memory ran out
+-- an answer does not say that a read failed or that memory ran out
 pub no_failure : (Gives : Driving) (Relays : Relaying) (seen : FileViews) (words : List (List ℕ)) (answer : CommandAnswer) → IsAnswer Gives Relays seen words answer → (answer.status ≡ ReadFault) ⊎ (answer.status ≡ NoMemory) → ⊥
 no_failure Gives Relays seen words answer (inl h) (inl e) = true≢false (sym (of_command Gives Relays seen h.command answer h.answers) ∙ ap is_said e)
 no_failure Gives Relays seen words answer (inl h) (inr e) = true≢false (sym (of_command Gives Relays seen h.command answer h.answers) ∙ ap is_said e)
 no_failure Gives Relays seen words answer (inr h) (inl e) = let both : Usage ≡ ReadFault = sym (status_of answer usage_answer h.1) ∙ e in cc
 no_failure Gives Relays seen words answer (inr h) (inr e) = let both : Usage ≡ NoMemory = sym (status_of answer usage_answer h.1) ∙ e in cc
 
--- and none where a write failed
+-- nor that a write failed
 pub no_write_failure : (Gives : Driving) (Relays : Relaying) (seen : FileViews) (words : List (List ℕ)) (answer : CommandAnswer) → IsAnswer Gives Relays seen words answer → answer.status ≡ WriteFault → ⊥
 no_write_failure Gives Relays seen words answer (inl h) e = true≢false (sym (of_command Gives Relays seen h.command answer h.answers) ∙ ap is_said e)
 no_write_failure Gives Relays seen words answer (inr h) e = let both : Usage ≡ WriteFault = sym (status_of answer usage_answer h.1) ∙ e in cc
 
--- such an answer comes where no read failed
+-- such an answer is given if no read failed
 pub no_read_failed : (status : Status) (old new : List ReadEntry) → status ≢ ReadFault → HaveSucceeded old new → IsStatusOfReads status old new
 no_read_failed ReadFault old new said h = absurd (said refl)
 no_read_failed _ old new said h = h
 
--- the outcome by what the reads gave is that for the files as they are told, and else for some
+-- the outcome by what the reads gave is that for the files as they are known, and else for some
 pub outcome_seen : (told : Option FileMap) (old new : List ReadEntry) (IsIt : FileViews → CommandAnswer → Type 0) (status : Status) (out err : Writing) → IsOutcomeOfReads told old new IsIt status out err → ForMap told (λ seen. IsOutcome (IsIt seen) status out err)
 outcome_seen told old new IsIt status out err (inl h) = of_reads told (λ seen. IsOutcome (IsIt seen) status out err)
     (for_each_view (λ seen. IsSaid (IsIt seen) status out err ⊎ IsBrokenOff (IsIt seen) status out err) (λ seen. IsOutcome (IsIt seen) status out err) (λ seen k. elim k [ inl said ↦ inl said | inr broken ↦ inr (inl broken) ]) h)

@@ -4,6 +4,7 @@ use Rattle.std.specs.Prelude.{Option, Some, None, codes}
 use Rattle.std.specs.List.{flat_map}
 use Rattle.std.proofs.lemmas.Option.{same_Some}
 use Rattle.ipdl_base.specs.Outside.{FileMap}
+use Rattle.ipdl_base.specs.declared.files.TheConstants.{MOST_BYTES}
 use Rattle.ipdl_base.specs.declared.finding.Finding.{Finding}
 use Rattle.ipdl_base.specs.declared.finding.Report.{Report}
 use Rattle.ipdl_syntax.specs.declared.program.Entry.{Entry}
@@ -35,16 +36,18 @@ use Rattle.sync_list.specs.declared.list.Section.{Section}
 use Rattle.sync_list.specs.Lists.{IsListOf}
 use Rattle.sync_list.specs.Laws.{OneList}
 use Rattle.ipdl_top.specs.declared.answer.CommandAnswer.{CommandAnswer}
-use Rattle.ipdl_top.specs.CommandAnswer.{IsBrokenFile, BreaksRules, IsFileReport, IsReading, IsRuleReport, IsSaidOf, IsCompilation, AnswersTo, SaysTables, given_by, table_answer}
-use Rattle.ipdl_top.specs.declared.status.Status.TheVariants.{Broken, Spent}
+use Rattle.ipdl_top.specs.CommandAnswer.{IsBrokenFile, BreaksRules, IsFileReport, IsReading, IsRuleReport, IsSaidOf, IsCompilation, AnswersTo, SaysOf, SaysTables, table_answer}
+use Rattle.ipdl_top.specs.CommandFiles.{files_by, given_by, names_read, seen_by}
+use Rattle.ipdl_top.specs.declared.status.Status.TheVariants.{BadFrames, Broken, Spent}
 use Rattle.ipdl_top.specs.Audit.{SaysAudit}
 use Rattle.ipdl_top.specs.Feed.{SaysFeed}
 use Rattle.ipdl_top.specs.Frames.{SaysBytes, SaysFrames, frames_answer, frames_out}
 use Rattle.ipdl_top.specs.Laws.{LeavesNothing, OneAnswer}
 use Rattle.ipdl_top.specs.declared.rendering.Rendering.TheVariants.{Summary, Transcript}
-use Rattle.ipdl_top.specs.Gen.{SaysGen, case_course, case_files, case_path, holder_name, script_name}
-use Rattle.ipdl_top.specs.Relay.{Relaying, SaysRelay}
-use Rattle.ipdl_top.specs.Run.{Driving, SaysRun}
+use Rattle.ipdl_top.specs.Gen.{SaysGen, case_course, case_files, holder_name, script_name}
+use Rattle.ipdl_top.specs.Inputs.{absent_answer, larger_answer}
+use Rattle.ipdl_top.specs.Relay.{Relaying}
+use Rattle.ipdl_top.specs.Run.{Driving}
 use Rattle.ipdl_top.specs.Waits.{SaysWaits, pair_line, waits_text}
 use Rattle.ipdl_top.specs.Lists.{AreSections, list_names}
 use Rattle.ipdl_top.specs.FileViews.{FileViews}
@@ -54,6 +57,7 @@ use Rattle.ipdl_top.proofs.Compilations.{names_called, no_fault}
 use Rattle.ipdl_top.proofs.TableTexts.{one_text}
 use Rattle.ipdl_top.proofs.OneAudit.{AuditLaws, audit_one}
 use Rattle.ipdl_top.proofs.OneFeed.{FeedLaws, feed_one}
+use Rattle.ipdl_top.proofs.OneFile.{file_one}
 use Rattle.ipdl_top.proofs.OneReport.{told_alike}
 use Rattle.ipdl_top.proofs.OneRelay.{RelayLaws, relay_one}
 use Rattle.ipdl_top.proofs.OneRun.{RunLaws, run_one}
@@ -173,12 +177,10 @@ bytes_one laws name convert bytes a b same one other x y =
     x.says ∙ ap (λ (out : List ℕ). frames_answer name out x.fault) (out_one laws convert a b same x.frames y.frames list.0)
     ∙ ap (frames_answer name (frames_out convert b y.frames)) list.1 ∙ sym y.says
 
-frames_one : TheLaws → (name : List ℕ) (convert : Bool) (held : Option (List ℕ)) → SaysOne (SaysFrames name convert held)
-frames_one laws name convert None a b same one other x y = x ∙ sym y
-frames_one laws name convert (Some bytes) a b same one other (inl x) (inl y) = x.1 ∙ sym y.1
-frames_one laws name convert (Some bytes) a b same one other (inl x) (inr y) = absurd (omega (arith, x.0, y.0))
-frames_one laws name convert (Some bytes) a b same one other (inr x) (inl y) = absurd (omega (arith, x.0, y.0))
-frames_one laws name convert (Some bytes) a b same one other (inr x) (inr y) = bytes_one laws name convert bytes a b same one other x.1 y.1
+frames_one : TheLaws → (name : List ℕ) (convert : Bool) (bytes : Option (List ℕ)) → SaysOne (SaysFrames name convert bytes)
+frames_one laws name convert bytes a b same one other x y =
+    file_one (absent_answer BadFrames name) (larger_answer BadFrames name) MOST_BYTES (λ bytes. SaysBytes name convert bytes a) (λ bytes. SaysBytes name convert bytes b) one other
+    (λ bytes. bytes_one laws name convert bytes a b same one other) bytes x y
 
 -- the lines of pairs
 same_lines : TheLaws → (a b : Schema) → plain_schema a ≡ plain_schema b → (pairs : List Pair) → waits_text a pairs ≡ waits_text b pairs
@@ -196,7 +198,7 @@ waits_one laws file a b same one other x y =
     let pairs : x.pairs ≡ y.pairs = laws.wait_report b y.top x.pairs y.pairs moved y.report in
     x.says ∙ ap table_answer (same_lines laws a b same x.pairs ∙ ap (waits_text b) pairs) ∙ sym y.says
 
--- the same where one answer is such a one
+-- the same, if one answer has a property
 abbrev SaysOneSuch : (CommandAnswer → Type 0) → (Schema → CommandAnswer → Type 0) → Type 0
 SaysOneSuch IsSuch Says = (a b : Schema) → plain_schema a ≡ plain_schema b → (one other : CommandAnswer) → IsSuch one → Says a one → Says b other → one ≡ other
 
@@ -212,7 +214,7 @@ said laws IsSuch Says unique given lists list one other such x y =
 
 -- Answers
 
--- a compilation has one answer
+-- a compilation has one answer, if one answer has the property
 compilations_such : TheLaws → (IsSuch : CommandAnswer → Type 0) (Says : Schema → CommandAnswer → Type 0) → SaysOneSuch IsSuch Says → (given : LoadInput) (lists : FileMap) (list : Option (List ℕ)) (one other : CommandAnswer)
     → IsSuch one → IsCompilation Says given lists list one → IsCompilation Says given lists list other → one ≡ other
 compilations_such laws IsSuch Says unique given lists list one other such (inl x) (inl y) = x.says ∙ file_reports laws given lists list x.report y.report x.holds y.holds ∙ sym y.says
@@ -225,10 +227,7 @@ compilations_such laws IsSuch Says unique given lists list one other such (inr (
 compilations_such laws IsSuch Says unique given lists list one other such (inr (inr x)) (inr (inl y)) = absurd (not_said laws Says given lists list y.report one y.holds x)
 compilations_such laws IsSuch Says unique given lists list one other such (inr (inr x)) (inr (inr y)) = said laws IsSuch Says unique given lists list one other such x y
 
-compilations : TheLaws → (Says : Schema → CommandAnswer → Type 0) → SaysOne Says → (given : LoadInput) (lists : FileMap) (list : Option (List ℕ)) (one other : CommandAnswer) → IsCompilation Says given lists list one → IsCompilation Says given lists list other → one ≡ other
-compilations laws Says unique given lists list one other x y = compilations_such laws IsAny Says (λ a b same first second any. unique a b same first second) given lists list one other tt x y
-
--- which answer a command leaves to nobody: any, but that of a run without a word of turns, and that a side of a relay is spent
+-- which answer a command leaves to no driver: any, except that of a run without a word of turns, and that a side of a relay is spent
 abbrev LeavesNone : CommandView → CommandAnswer → Type 0
 LeavesNone (command.run list path course script file) one = course.schedule ≢ None
 LeavesNone (command.relay list path course script file) one = one.status ≢ Spent
@@ -244,25 +243,31 @@ leaves_none words (command.feed list path course script file name) one said leav
 leaves_none words (command.audit list path limit script file name) one said leaves = tt
 leaves_none words (command.relay list path course script file) one said leaves = leaves.1 list path course script file said
 
+-- a command says one thing of a schema, if it leaves the answer to no driver
+of_any : (Says : Schema → CommandAnswer → Type 0) → SaysOne Says → SaysOneSuch IsAny Says
+of_any Says unique a b same one other any = unique a b same one other
+
+says_one : TheLaws → (Gives : Driving) (Relays : Relaying) (seen : FileViews) (command : CommandView) → SaysOneSuch (LeavesNone command) (SaysOf Gives Relays seen command)
+says_one laws Gives Relays seen (command.compile list path names) = of_any SaysTables tables_one
+says_one laws Gives Relays seen (command.frames list path file name convert) = of_any (SaysFrames name convert (seen.input name)) (frames_one laws name convert (seen.input name))
+says_one laws Gives Relays seen (command.waits list path file) = of_any (SaysWaits file) (waits_one laws file)
+says_one laws Gives Relays seen (command.run list path course script file) = λ a b same one other leaves. run_one laws.runs Gives Transcript course leaves script (seen.script script) file a b same one other
+says_one laws Gives Relays seen (command.gen rounds actors) =
+    of_any (SaysGen Gives rounds actors) (run_one laws.runs Gives (Summary rounds actors) case_course (λ e. cc) script_name (case_files rounds actors script_name) holder_name)
+says_one laws Gives Relays seen (command.feed list path course script file name) =
+    of_any (SaysFeed course script (seen.script script) name (seen.input name) file) (feed_one laws.feeds course script (seen.script script) name (seen.input name) file)
+says_one laws Gives Relays seen (command.audit list path limit script file name) =
+    of_any (SaysAudit limit script (seen.script script) name (seen.input name) file) (audit_one laws.audits limit script (seen.script script) name (seen.input name) file)
+says_one laws Gives Relays seen (command.relay list path course script file) = relay_one laws.relays Relays course script (seen.script script) file
+
 -- so has each command
 commands : TheLaws → (Gives : Driving) (Relays : Relaying) (seen : FileViews) (command : CommandView) (one other : CommandAnswer) → LeavesNone command one → AnswersTo Gives Relays seen command one → AnswersTo Gives Relays seen command other → one ≡ other
-commands laws Gives Relays seen (command.compile list path names) one other leaves x y = compilations laws SaysTables tables_one (given_by seen.files path names) seen.list list one other x y
-commands laws Gives Relays seen (command.frames list path file name convert) one other leaves x y =
-    compilations laws (SaysFrames name convert (seen.input name)) (frames_one laws name convert (seen.input name)) (given_by seen.files path (file ∷ [])) seen.list list one other x y
-commands laws Gives Relays seen (command.waits list path file) one other leaves x y = compilations laws (SaysWaits file) (waits_one laws file) (given_by seen.files path (file ∷ [])) seen.list list one other x y
-commands laws Gives Relays seen (command.run list path course script file) one other leaves x y =
-    compilations laws (SaysRun Gives Transcript course script (seen.script script) file) (run_one laws.runs Gives Transcript course leaves script (seen.script script) file) (given_by seen.files path (file ∷ [])) seen.list list one other x y
-commands laws Gives Relays seen (command.gen rounds actors) one other leaves x y =
-    compilations laws (SaysGen Gives rounds actors) (run_one laws.runs Gives (Summary rounds actors) case_course (λ e. cc) script_name (case_files rounds actors script_name) holder_name) (given_by (case_files rounds actors) case_path (holder_name ∷ []))
-    (case_files rounds actors) None one other x y
-commands laws Gives Relays seen (command.feed list path course script file name) one other leaves x y =
-    compilations laws (SaysFeed course script (seen.script script) name (seen.input name) file) (feed_one laws.feeds course script (seen.script script) name (seen.input name) file) (given_by seen.files path (file ∷ [])) seen.list list one other x y
-commands laws Gives Relays seen (command.audit list path limit script file name) one other leaves x y =
-    compilations laws (SaysAudit limit script (seen.script script) name (seen.input name) file) (audit_one laws.audits limit script (seen.script script) name (seen.input name) file) (given_by seen.files path (file ∷ [])) seen.list list one other x y
-commands laws Gives Relays seen (command.relay list path course script file) one other leaves x y =
-    compilations_such laws (λ answer. answer.status ≢ Spent) (SaysRelay Relays course script (seen.script script) file) (relay_one laws.relays Relays course script (seen.script script) file) (given_by seen.files path (file ∷ [])) seen.list list one other leaves x y
+commands laws Gives Relays seen command one other leaves x y =
+    let names = names_read (files_by command) in
+    let views = seen_by (files_by command) seen in
+    compilations_such laws (LeavesNone command) (SaysOf Gives Relays views command) (says_one laws Gives Relays views command) (given_by views.files names.path names.program) views.list names.list one other leaves x y
 
--- words are one command or none
+-- words are one command at most
 pub answer_is_determined : TheLaws → (Gives : Driving) (Relays : Relaying) → OneAnswer Gives Relays
 answer_is_determined laws Gives Relays seen words one other leaves (inl x) (inl y) =
     let same : y.command ≡ x.command = laws.command words y.command x.command y.said x.said in

@@ -14,9 +14,9 @@ use Rattle.script_steps.specs.Turns.{RunEnding}
 use Rattle.script_transcripts.specs.Legal.{AreFirstLines, AreLegalSoFar, IsLegalText}
 use Rattle.script_transcripts.proofs.Fronts.{ending-alone, legal_texts_decide, replays_decide}
 use Rattle.script_transcripts.proofs.Names.{case_names_are_words}
-use Rattle.transcript_laws.proofs.Lines.{transcripts_are_lines}
-use Rattle.transcript_laws.specs.TextLines.{text_lines, with_first}
-use Rattle.transcript_reader.specs.Compared.{most_text_bytes}
+use Rattle.transcripts.proofs.Lines.{transcripts_are_lines}
+use Rattle.transcripts.specs.TextLines.{text_lines, with_first}
+use Rattle.transcripts.specs.Compared.{most_text_bytes}
 use Rattle.world_core.specs.declared.world.replay.Replay.{Replay}
 use Rattle.world_core.specs.declared.world.replay.Replay.TheVariants as replay
 use Rattle.world_core.specs.Replayed.{ArePrintedSoFar, AreWhole, IsReplayed, SaysOf}
@@ -56,9 +56,9 @@ pub replay-few : (setting : Setting) (text : List ℕ) (answer : Replay) → len
 replay-few setting text answer few is = by answer is.says
   where
     by : (a : Replay) → SaysOf setting (text_lines text) is.last a → IsFew a
-    by (replay.Whole events) s = tt
-    by (replay.Short count) s = let n = few-lines text in let k = s.1 in omega (arith, n, k, few)
-    by (replay.Apart count) s = let n = few-lines text in let k = s.1 in omega (arith, n, k, few)
+    by (replay.Complete events) s = tt
+    by (replay.Incomplete count) s = let n = few-lines text in let k = s.1 in omega (arith, n, k, few)
+    by (replay.Diverged count) s = let n = few-lines text in let k = s.1 in omega (arith, n, k, few)
 
 module _ (setting : Setting) (sound : IsSound setting.schema) (valid : IsValid setting.schema setting.script) (limit : HasLimit setting) (text : List ℕ) where
   module _ (last : RunState) (follows : Follows setting (text_lines text) last) where
@@ -92,8 +92,8 @@ module _ (setting : Setting) (sound : IsSound setting.schema) (valid : IsValid s
   audited answer is = by answer is.says
     where
       by : (a : Replay) → SaysOf setting (text_lines text) is.last a → IsAudited setting text (audit_by a)
-      by (replay.Whole events) s =
+      by (replay.Complete events) s =
           let w = whole-text is.last is.follows s.0 in
           (record { choices = is.follows.done; state = is.last; plays = is.follows.plays; ending = w.0; ends = w.1; is = w.2 }, s.1)
-      by (replay.Short count) s = (not-legal is.last is.follows s.2, subst (AreLegalSoFar setting text) s.1 (legal-so-far is.last is.follows count s.0), ap (λ n. n + 1) s.1)
-      by (replay.Apart count) s = (count, legal-so-far is.last is.follows count s.0, s.1, refl)
+      by (replay.Incomplete count) s = (not-legal is.last is.follows s.2, subst (AreLegalSoFar setting text) s.1 (legal-so-far is.last is.follows count s.0), ap (λ n. n + 1) s.1)
+      by (replay.Diverged count) s = (count, legal-so-far is.last is.follows count s.0, s.1, refl)

@@ -159,7 +159,7 @@ some_of (f ∷ findings) report some to = some_element report f (to f (zero, ome
 of_files : (given : LoadInput) (lists : FileMap) (word : Option (List ℕ)) (files : BrokenFiles) (listed : SyncListFile) (report : Report) → AreBrokenFiles given files → IsListed lists word (length files.names) listed → ReportsWithList files listed word report → IsFileReport given lists word report
 of_files given lists word files listed report r is h =
     let long : length files.names ≡ length r.keys = ap length r.called ∙ length-map r.keys (text_of given) in
-    let behind : IsListed lists word (length r.keys) listed = subst (λ n. IsListed lists word n listed) long is in
+    let following : IsListed lists word (length r.keys) listed = subst (λ n. IsListed lists word n listed) long is in
     record {
       keys = r.keys;
       reach = r.reach;
@@ -168,11 +168,11 @@ of_files given lists word files listed report r is h =
         exact = λ f. (
           λ c. elim ((h.is_report.exact f).0 c) [
             | inl a ↦ inl ((r.exact f).0 a)
-            | inr e ↦ inr ((listed_fault lists word (length r.keys) listed f behind).1 e)
+            | inr e ↦ inr ((listed_fault lists word (length r.keys) listed f following).1 e)
           ],
           λ b. (h.is_report.exact f).1 (elim b [
             | inl broken ↦ inl ((r.exact f).1 broken)
-            | inr fault ↦ inr ((listed_fault lists word (length r.keys) listed f behind).0 fault)
+            | inr fault ↦ inr ((listed_fault lists word (length r.keys) listed f following).0 fault)
           ]),
         );
       };

@@ -13,7 +13,7 @@ use Rattle.program_schema.specs.Clean.{IsClean}
 use Rattle.sync_list.specs.declared.list.Section.{Section}
 use Rattle.ipdl_top.specs.CommandAnswer.{BreaksRules}
 
--- the list has exactly the findings of which this holds
+-- the list has exactly the findings with this property
 abbrev pub Has : List Finding → (Finding → Type 0) → Type 0
 Has found Holds = (f : Finding) → Contains found f ↔ Holds f
 

@@ -1,4 +1,7 @@
 pub mod Pieces
+pub mod Weaker
+pub mod EndedAnswers
+pub mod OneFile
 pub mod Answered
 pub mod Views
 pub mod Compilations

@@ -1,5 +1,5 @@
 -- An audit has one answer.
-use Rattle.std.proofs.Common.{◌≡◌, ◌∙◌, ℕ, ◌≤◌, Bool, true, false, not, ◌&&◌, cond, if◌then◌else◌, List, [], ◌∷◌, ◌++◌, length, take, drop, filter, refl, sym, ap, arith, inl, inr}
+use Rattle.std.proofs.Common.{◌≡◌, ◌∙◌, ℕ, ◌≤◌, Bool, true, false, not, ◌&&◌, cond, if◌then◌else◌, List, [], ◌∷◌, ◌++◌, length, take, drop, filter, refl, sym, ap, arith}
 use Rattle.std.specs.Prelude.{Option, None, Some}
 use Rattle.std.specs.List.{cons_option, filter_map}
 use Rattle.std.proofs.lemmas.List.{append-nil, take-append-drop}
@@ -25,13 +25,16 @@ use Rattle.script_steps.specs.Turns.{RunEnding, at_limit, at_rest}
 use Rattle.script_transcripts.specs.Legal.{AreFirstLines, AreLegalSoFar, IsLegalText}
 use Rattle.script_transcripts.proofs.Fronts.{ending-alone}
 use Rattle.script_transcripts.proofs.Texts.{transcript-lines}
-use Rattle.transcript_laws.specs.TextLines.{text_lines}
-use Rattle.transcript_reader.specs.Compared.{events_in}
+use Rattle.transcripts.specs.TextLines.{text_lines}
+use Rattle.transcripts.specs.Compared.{events_in, most_text_bytes}
 use Rattle.ipdl_top.specs.declared.answer.CommandAnswer.{CommandAnswer}
-use Rattle.ipdl_top.specs.declared.audited.Audit.{Audit}
-use Rattle.ipdl_top.specs.declared.audited.Audit.TheVariants as audit
+use Rattle.ipdl_top.specs.declared.audit.outcome.Audit.{Audit}
+use Rattle.ipdl_top.specs.declared.audit.outcome.Audit.TheVariants as audit
 use Rattle.ipdl_top.specs.Audit.{SaysAudit, SaysAudited, SaysAuditedOf, audit_answer}
 use Rattle.ipdl_top.specs.Audited.{IsAudited, audited_setting}
+use Rattle.ipdl_top.specs.Inputs.{absent_answer, larger_answer}
+use Rattle.ipdl_top.specs.declared.status.Status.TheVariants.{BadTranscript}
+use Rattle.ipdl_top.proofs.OneFile.{file_one}
 use Rattle.ipdl_top.proofs.OneScript.{IsAny, script_one}
 
 -- the laws that an audit rests on
@@ -63,7 +66,7 @@ module _ (laws : AuditLaws) (a b : Setting) (alike : AreSettingsAlike a b) where
   first_too : (lines : List (List ℕ)) → AreFirstLines a lines → AreFirstLines b lines
   first_too lines first = record { whole = first.whole; legal = legal_too first.whole first.legal; others = first.others; is = first.is }
 
-  -- so many lines of a text are legal under one, and no fewer under the other
+  -- the first lines of a text that are legal under one are legal under the other
   no_fewer : (text : List ℕ) (count other : ℕ) → AreLegalSoFar a text count → AreLegalSoFar b text other → count ≤ other
   no_fewer text count other x y = y.most count x.there (first_too (take count (text_lines text)) x.first)
 
@@ -76,7 +79,7 @@ module _ (laws : AuditLaws) (a b : Setting) (alike : AreSettingsAlike a b) where
 settings_back : (a b : Setting) → AreSettingsAlike a b → AreSettingsAlike b a
 settings_back a b alike = record { schemas = sym alike.schemas; scripts = sym alike.scripts; stop = sym alike.stop; limit = sym alike.limit }
 
--- How many events a legal text has is told by its lines
+-- The lines of a legal text give the number of its events
 
 counted : (effect : Bool) (line : Line) (rest : List Line) (choice : Choice) (choices : List Choice) → length rest ≡ length choices
     → length (cond (not effect) (line ∷ rest) rest) ≡ length (cons_option (if effect then None else Some choice) choices)
@@ -149,11 +152,9 @@ audited_one laws limit name text a b alike s t same one other x y =
 
 audited_of_one : AuditLaws → (limit : ℕ) (name : List ℕ) (text : Option (List ℕ)) (a b : Schema) → AreSchemasAlike a b → (s t : Script) → plain_script s ≡ plain_script t → (one other : CommandAnswer)
     → IsAny one → SaysAuditedOf limit name text a s one → SaysAuditedOf limit name text b t other → one ≡ other
-audited_of_one laws limit name None a b alike s t same one other any x y = x ∙ sym y
-audited_of_one laws limit name (Some text) a b alike s t same one other any (inl x) (inl y) = x.1 ∙ sym y.1
-audited_of_one laws limit name (Some text) a b alike s t same one other any (inl x) (inr y) = absurd (omega (arith, x.0, y.0))
-audited_of_one laws limit name (Some text) a b alike s t same one other any (inr x) (inl y) = absurd (omega (arith, x.0, y.0))
-audited_of_one laws limit name (Some text) a b alike s t same one other any (inr x) (inr y) = audited_one laws limit name text a b alike s t same one other x.1 y.1
+audited_of_one laws limit name text a b alike s t same one other any x y =
+    file_one (absent_answer BadTranscript name) (larger_answer BadTranscript name) most_text_bytes (λ text. SaysAudited limit name text a s) (λ text. SaysAudited limit name text b t) one other
+    (λ text. audited_one laws limit name text a b alike s t same one other) text x y
 
 pub audit_one : AuditLaws → (limit : ℕ) (script : List ℕ) (held : Option (List ℕ)) (name : List ℕ) (text : Option (List ℕ)) (file : List ℕ) (a b : Schema) → AreSchemasAlike a b → (one other : CommandAnswer)
     → SaysAudit limit script held name text file a one → SaysAudit limit script held name text file b other → one ≡ other

@@ -1,7 +1,6 @@
 -- A relay has one answer where it is finished.
 use Rattle.std.proofs.Common.{◌≡◌, ◌≢◌, ◌∙◌, ◌++◌, ℕ, List, refl, sym, ap, subst}
 use Rattle.std.specs.Prelude.{Option}
-use Rattle.ipdl_base.specs.declared.line.Line.{Line}
 use Rattle.ipdl_base.specs.declared.schema.Schema.{Schema}
 use Rattle.command_words.specs.Relay.{RelayCourse}
 use Rattle.handler_script.specs.declared.script.Script.{Script}
@@ -17,10 +16,9 @@ use Rattle.script_steps.specs.Choices.{Setting}
 use Rattle.script_steps.specs.Turns.{RunEnding, at_limit, at_rest}
 use Rattle.world_core.specs.declared.relay.Halves.{Halves}
 use Rattle.ipdl_top.specs.declared.answer.CommandAnswer.{CommandAnswer}
-use Rattle.ipdl_top.specs.declared.status.Status.{Status}
 use Rattle.ipdl_top.specs.declared.status.Status.TheVariants.{Spent}
-use Rattle.ipdl_top.specs.Relay.{Relaying, SaysRelay, SaysRelayed, half_lines, halves_text, relay_answer, relay_setting}
-use Rattle.ipdl_top.specs.Run.{run_status}
+use Rattle.ipdl_top.specs.Ended.{ended_answer, run_status}
+use Rattle.ipdl_top.specs.Relay.{Relaying, SaysRelay, SaysRelayed, half_lines, halves_text, relay_setting}
 use Rattle.ipdl_top.proofs.OneScript.{script_one_such}
 
 -- the laws that a relay rests on
@@ -56,8 +54,8 @@ relayed_one laws Relays course a b alike s t same one other unspent x y =
     let ends = all_finished laws.one T x.relayed.state y.relayed.state (laws.alike.runs S T settings x.relayed.state x.relayed.relay) y.relayed.relay finished y.ending y.relayed.ends in
     let parent : half_lines x.halves.parent ≡ half_lines y.halves.parent = sym x.relayed.parent_lines ∙ ap (λ (state : RelayState). state.parent.lines) ends.0 ∙ y.relayed.parent_lines in
     let child : half_lines x.halves.child ≡ half_lines y.halves.child = sym x.relayed.child_lines ∙ ap (λ (state : RelayState). state.child.lines) ends.0 ∙ y.relayed.child_lines in
-    x.says ∙ ap (λ (text : List ℕ). relay_answer text x.ending) (same_halves laws.texts a b alike x.halves y.halves parent child)
-    ∙ ap (relay_answer (halves_text b y.halves)) (rests ∙ ends.1) ∙ sym y.says
+    x.says ∙ ap (λ (text : List ℕ). ended_answer text x.ending) (same_halves laws.texts a b alike x.halves y.halves parent child)
+    ∙ ap (ended_answer (halves_text b y.halves)) (rests ∙ ends.1) ∙ sym y.says
 
 pub relay_one : RelayLaws → (Relays : Relaying) (course : RelayCourse) (name : List ℕ) (held : Option (List ℕ)) (file : List ℕ) (a b : Schema) → AreSchemasAlike a b → (one other : CommandAnswer)
     → one.status ≢ Spent → SaysRelay Relays course name held file a one → SaysRelay Relays course name held file b other → one ≡ other

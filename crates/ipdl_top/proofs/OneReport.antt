@@ -1,4 +1,4 @@
--- Reports with the same findings and names are told alike.
+-- Reports with the same findings and names have the same text.
 use Rattle.std.proofs.Common.{◌≡◌, ◌∙◌, ℕ, List, ap}
 use Rattle.ipdl_base.specs.declared.finding.Finding.{Finding}
 use Rattle.ipdl_base.specs.declared.finding.Report.{Report}

@@ -1,5 +1,5 @@
 -- A script has one answer where its run goes by a word of turns.
-use Rattle.std.proofs.Common.{◌≡◌, ◌≢◌, ◌∙◌, ◌++◌, ℕ, List, [], refl, sym, ap}
+use Rattle.std.proofs.Common.{◌≡◌, ◌≢◌, ◌∙◌, ℕ, List, refl, sym, ap}
 use Rattle.std.specs.Prelude.{Option, None, Some}
 use Rattle.ipdl_base.specs.declared.line.Line.{Line}
 use Rattle.ipdl_base.specs.declared.schema.Schema.{Schema}
@@ -10,7 +10,6 @@ use Rattle.handler_script.specs.declared.script.Script.{Script}
 use Rattle.handler_script.specs.Plain.{plain_script}
 use Rattle.schema_laws.specs.Runs.{AreSettingsAlike, PicksAlike, ScriptsAlike, TextsAlike}
 use Rattle.schedules.specs.declared.turn.Turn.{Turn}
-use Rattle.script_runs.specs.Endings.{ending_line}
 use Rattle.script_steps.specs.Choices.{Setting, beginning_of}
 use Rattle.script_steps.specs.Laws.{WordsHaveOneResult}
 use Rattle.script_steps.specs.Turns.{Picks, RunEnding, at_limit, at_rest}
@@ -18,7 +17,8 @@ use Rattle.world_core.specs.WorldView.{WorldView, opening_of}
 use Rattle.ipdl_top.specs.declared.answer.CommandAnswer.{CommandAnswer}
 use Rattle.ipdl_top.specs.declared.rendering.Rendering.{Rendering}
 use Rattle.ipdl_top.specs.declared.rendering.Rendering.TheVariants.{Summary, Transcript}
-use Rattle.ipdl_top.specs.Run.{Driving, IsMade, SaysHistory, SaysRun, answer_of, rendered, run_answer, run_status, setting_by}
+use Rattle.ipdl_top.specs.Ended.{answer_of, ended_answer}
+use Rattle.ipdl_top.specs.Run.{Driving, IsMade, SaysHistory, SaysRun, rendered, run_answer, setting_by}
 use Rattle.ipdl_top.proofs.OneScript.{IsAny, script_one}
 
 -- the laws that a run rests on
@@ -41,7 +41,7 @@ one_text texts (Summary rounds actors) a b alike lines = refl
 -- the answer of a run under such schemas
 same_text : TextsAlike → (shown : Rendering) (a b : Schema) → AreSchemasAlike a b → (s t : RunState) (e f : RunEnding) → s ≡ t → e ≡ f → run_answer shown a s.lines e ≡ run_answer shown b t.lines f
 same_text texts shown a b alike s t e f states endings =
-    ap (λ (text : List ℕ). record { status = run_status e; out = text ++ ending_line e; err = [] }) (one_text texts shown a b alike s.lines)
+    ap (λ (text : List ℕ). ended_answer text e) (one_text texts shown a b alike s.lines)
     ∙ ap (λ (state : RunState). run_answer shown b state.lines e) states ∙ ap (run_answer shown b t.lines) endings
 
 word_one : RunLaws → (Gives : Driving) (word : List Turn) (S T : Setting) → AreSettingsAlike S T → (after other : WorldView) (e f : RunEnding)

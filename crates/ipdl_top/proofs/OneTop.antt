@@ -7,7 +7,7 @@ use Rattle.program_schema.specs.Laws.{plain_protocol_row, plain_schema}
 use Rattle.ipdl_top.specs.Waits.{IsTop, bears_name}
 use Rattle.ipdl_top.proofs.Tops.{position-cons}
 
--- the place of the first that passes, where all are as plain
+-- the place of the first that passes, if all are as plain
 place_alike : (p : ProtocolRow → Bool) → ((row : ProtocolRow) → p (plain_protocol_row row) ≡ p row) → (rows : List ProtocolRow) → position_or_len p (map plain_protocol_row rows) ≡ position_or_len p rows
 place_alike p blind [] = refl
 place_alike p blind (row ∷ rows) =

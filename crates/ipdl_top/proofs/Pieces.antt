@@ -17,6 +17,6 @@ pub Appends-nothing : (old : Option (List ℕ)) → Appends old old []
 Appends-nothing None = refl
 Appends-nothing (Some w) = ap Some (sym (append-nil w))
 
--- a front of what is left goes over
+-- a prefix of what is left is moved
 pub moved : (text front rest : List ℕ) (n : ℕ) → text ≡ front ++ rest → text ≡ (front ++ take n rest) ++ drop n rest
 moved text front rest n split = split ∙ ap (λ x. front ++ x) (sym (take-append-drop n rest)) ∙ sym (append_assoc front (take n rest) (drop n rest))

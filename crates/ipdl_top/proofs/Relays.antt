@@ -1,10 +1,10 @@
 -- What is said of a relay that was made.
-use Rattle.std.proofs.Common.{◌≡◌, ◌≤◌, ◌∙◌, ◌++◌, ℕ, List, [], refl, sym, ap, subst, arith}
+use Rattle.std.proofs.Common.{◌≡◌, ◌≤◌, ◌∙◌, ◌++◌, List, sym, ap, subst, arith}
 use Rattle.ipdl_base.specs.declared.kinds.Side.{Side}
 use Rattle.ipdl_base.specs.declared.line.Line.{Line}
 use Rattle.ipdl_base.specs.declared.schema.Schema.{Schema}
 use Rattle.ipdl_base.specs.Sound.{IsSound}
-use Rattle.channel_model.specs.Numbers.{other}
+use Rattle.ipdl_base.specs.Sides.{other}
 use Rattle.channel_model.specs.Runs.{IsLegalHistory, RunState}
 use Rattle.command_words.specs.Relay.{RelayCourse}
 use Rattle.handler_script.specs.declared.script.Script.{Script}
@@ -35,20 +35,15 @@ use Rattle.order_statements.specs.Order.{Order}
 use Rattle.progress_laws.specs.Progress.{HistoriesAreWeighed}
 use Rattle.progress_laws.specs.Rest.{StillWorldsRest}
 use Rattle.script_runs.specs.Laws.{RestOfCasesIsStill}
-use Rattle.world_laws.specs.Statements.{HistoriesAreLawful, IsLawfulHistory}
+use Rattle.order_statements.specs.Lawful.{HistoriesAreLawful, IsLawfulHistory}
 use Rattle.ipdl_top.specs.declared.answer.CommandAnswer.{CommandAnswer}
 use Rattle.ipdl_top.specs.Relay.{Relaying, SaysRelayed, half_lines, halves_text, relay_setting}
-use Rattle.ipdl_top.specs.RelaySteps.{IsTextAnswer}
-use Rattle.ipdl_top.specs.Run.{answer_of, run_status}
+use Rattle.ipdl_top.specs.Ended.{IsEndedAnswer, answer_of}
 use Rattle.ipdl_top.proofs.Runs.{rests_so, weighed_so}
 
 -- a world that is as one begins begins itself
 pub opens-itself : (w : WorldView) (setting : Setting) → w ≡ opening_of setting → w ≡ opening_of w.setting
 opens-itself w setting is = is ∙ ap (λ (v : WorldView). opening_of v.setting) (sym is)
-
--- An answer that is a text and the line of an ending.
-pub ended_so : (text line : List ℕ) (ending : RunEnding) (answer : CommandAnswer) → line ≡ ending_line ending → answer ≡ record { status = run_status ending; out = text ++ line; err = [] } → IsTextAnswer text (answer_of ending) answer
-ended_so text line ending answer line_is is = record { ending = ending; ends = refl; says = is ∙ ap (λ (l : List ℕ). record { status = run_status ending; out = text ++ l; err = [] }) line_is }
 
 -- a relay that did not run out of memory was made, and is one
 made_so : (Relays : Relaying) (opened : WorldView) (halves : Halves) (ending : RunEnding) → RelayGives Relays opened halves (answer_of ending) → Relays opened halves (answer_of ending)
@@ -98,7 +93,7 @@ prints_so setting state ending one ends = record {
 }
 
 pub says_relayed : RelayedLaws → (Relays : Relaying) (course : RelayCourse) (schema : Schema) (script : Script) (opened : WorldView) (halves : Halves) (ended : RunAnswer) (answer : CommandAnswer)
-    → IsSound schema → course.limit ≤ most_events → opened ≡ opening_of (relay_setting schema script course) → RelayGives Relays opened halves ended → IsRelayed opened.setting halves ended → IsTextAnswer (halves_text schema halves) ended answer → SaysRelayed Relays course schema script answer
+    → IsSound schema → course.limit ≤ most_events → opened ≡ opening_of (relay_setting schema script course) → RelayGives Relays opened halves ended → IsRelayed opened.setting halves ended → IsEndedAnswer (halves_text schema halves) ended answer → SaysRelayed Relays course schema script answer
 says_relayed laws Relays course schema script opened halves ended answer sound few opens gives relayed printed =
     let setting : Setting = relay_setting schema script course in
     let about : opened.setting ≡ setting = ap (λ (w : WorldView). w.setting) opens in

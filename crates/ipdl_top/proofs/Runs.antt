@@ -1,5 +1,5 @@
 -- What is said of a run that a world has made.
-use Rattle.std.proofs.Common.{◌≡◌, ◌≤◌, ◌+◌, ◌*◌, ◌∙◌, ◌++◌, ℕ, true, List, [], refl, ap, arith, subst, sym}
+use Rattle.std.proofs.Common.{◌≡◌, ◌≤◌, ◌+◌, ◌*◌, ◌∙◌, ◌++◌, ℕ, true, List, refl, ap, arith, subst, sym}
 use Rattle.std.specs.Prelude.{Option, None, Some}
 use Rattle.ipdl_base.specs.declared.line.Line.{Line}
 use Rattle.ipdl_base.specs.declared.schema.Schema.{Schema}
@@ -27,11 +27,12 @@ use Rattle.world_core.specs.declared.answers.RunAnswer.{RunAnswer}
 use Rattle.world_core.specs.Turns.{StandsAs}
 use Rattle.world_core.specs.WorldView.{WorldView, opening_of}
 use Rattle.world_core.specs.Worlds.{IsCase, most_events}
-use Rattle.world_laws.specs.Statements.{HistoriesAreLawful, IsLawfulHistory}
+use Rattle.order_statements.specs.Lawful.{HistoriesAreLawful, IsLawfulHistory}
 use Rattle.ipdl_top.specs.declared.answer.CommandAnswer.{CommandAnswer}
 use Rattle.ipdl_top.specs.declared.rendering.Rendering.{Rendering}
-use Rattle.ipdl_top.specs.Run.{Driving, IsMade, SaysHistory, answer_of, rendered, run_answer, run_status, setting_by}
-use Rattle.ipdl_top.specs.RunSteps.{IsMadeUnless, IsPrinted}
+use Rattle.ipdl_top.specs.Ended.{IsEndedAnswer, answer_of}
+use Rattle.ipdl_top.specs.Run.{Driving, IsMade, SaysHistory, rendered, run_answer, setting_by}
+use Rattle.ipdl_top.specs.RunSteps.{IsMadeUnless}
 
 -- a run that did not run out of memory was made
 made_so : (Gives : Driving) (schedule : Option (List Turn)) (before after : WorldView) (ending : RunEnding) → IsMadeUnless Gives schedule before after (answer_of ending) → IsMade Gives schedule before after (answer_of ending)
@@ -40,7 +41,7 @@ made_so Gives None before after (at_limit side) made = made
 made_so Gives (Some word) before after at_rest made = made
 made_so Gives (Some word) before after (at_limit side) made = made
 
--- A run that stands as it ended may end so.
+-- A run that is as it ended may end so.
 ends_so : (w : WorldView) (ending : RunEnding) → StandsAs w (answer_of ending) → EndsAs w.setting w.state ending
 ends_so w at_rest h = h.0
 ends_so w (at_limit side) h = (h.full, h.left)
@@ -67,7 +68,7 @@ weighed_so weighed schema sound top lines legal = subst (λ (ls : List Line). by
 -- answer says.
 pub says_history : ChoicesAreRuns → HistoriesAreLawful → HistoriesKeepOrder → HistoriesGiveWhatIsOwed → StillWorldsRest → HistoriesAreWeighed → SidesObeyAlone → (Gives : Driving) (shown : Rendering) (course : Course) (schema : Schema) (script : Script) (opened after : WorldView) (ended : RunAnswer) (answer : CommandAnswer)
     → IsSound schema → course.limit ≤ most_events → opened ≡ opening_of (setting_by schema script course) → IsMadeUnless Gives course.schedule opened after ended → after.setting ≡ opened.setting → StandsAs after ended → IsCase after
-    → IsPrinted shown after.setting.schema after.state.lines ended answer → SaysHistory Gives shown course schema script answer
+    → IsEndedAnswer (rendered shown after.setting.schema after.state.lines) ended answer → SaysHistory Gives shown course schema script answer
 says_history runs lawful order owed rests weighed alone Gives shown course schema script opened after ended answer sound few opens made same stands case' printed =
     let setting : Setting = setting_by schema script course in
     let about : after.setting ≡ setting = same ∙ ap (λ (w : WorldView). w.setting) opens in
@@ -98,14 +99,3 @@ says_history runs lawful order owed rests weighed alone Gives shown course schem
       legal_text = subst (λ (s : Setting). IsLegalText s (transcript_text s.schema after.state.lines ++ ending_line printed.ending)) about (prints_legal after printed.ending case' stands_so);
       says = printed.says ∙ ap (λ (s : Setting). run_answer shown s.schema after.state.lines printed.ending) about;
     }
-
--- An answer that is the text of lines and the line of an ending prints them.
-pub printed : (shown : Rendering) (schema : Schema) (lines : List Line) (text line : List ℕ) (ending : RunEnding) (answer : CommandAnswer) → line ≡ ending_line ending → text ≡ rendered shown schema lines
-    → answer ≡ record { status = run_status ending; out = text ++ line; err = [] } → IsPrinted shown schema lines (answer_of ending) answer
-printed shown schema lines text line ending answer line_is text_is is = record {
-  ending = ending;
-  ends = refl;
-  says =
-      is ∙ ap (λ (l : List ℕ). record { status = run_status ending; out = text ++ l; err = [] }) line_is
-      ∙ ap (λ (t : List ℕ). record { status = run_status ending; out = t ++ ending_line ending; err = [] }) text_is;
-}

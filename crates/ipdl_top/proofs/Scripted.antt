@@ -28,7 +28,7 @@ pub of_broken : (Says : Script → CommandAnswer → Type 0) (name : List ℕ) (
     → IsScriptChecked name held file schema (Broken report) → answer ≡ broken_answer BadScript report → SaysByScript Says name held file schema answer
 of_broken Says name held file schema report answer found says = record { top = found.top; is_top = found.is_top; says = subst (SaysOfHeld Says name held schema found.top) (sym says) (broken_held Says name held schema found.top report found.found) }
 
--- one that breaks none has the answer of the command
+-- a script that breaks no rule has the answer of the command
 pub of_valid : (Says : Script → CommandAnswer → Type 0) (name : List ℕ) (held : Option (List ℕ)) (file : List ℕ) (schema : Schema) (script : Script) (answer : CommandAnswer)
     → IsScriptChecked name held file schema (Valid script) → Says script answer → SaysByScript Says name held file schema answer
 of_valid Says name held file schema script answer found says = record { top = found.top; is_top = found.is_top; says = valid_held Says name held schema found.top script answer found.found says }

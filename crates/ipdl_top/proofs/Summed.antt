@@ -10,7 +10,7 @@ use Rattle.ipdl_base.specs.declared.line.What.{What}
 use Rattle.ipdl_base.specs.declared.line.What.TheVariants as what
 use Rattle.generated_case.specs.Counts.{counts_of, is_built, is_dropped, is_fallen, is_replaced, is_settled, is_step_of, is_taken}
 
--- a test that looks at no box counts the same, behind any count
+-- a test that looks at no box counts the same, after any count
 folds_plain : (test : Line → Bool) → ((line : Line) → test (plain_line line) ≡ test line) → (n : ℕ) (lines : List Line) → fold (λ a x. a + cond (test x) 1 0) n (map plain_line lines) ≡ fold (λ a x. a + cond (test x) 1 0) n lines
 folds_plain test blind n [] = refl
 folds_plain test blind n (line ∷ lines) =

@@ -1,4 +1,4 @@
--- In a program that breaks no rule there is a protocol that bears the name of the command's file.
+-- A program that breaks no rule has a protocol with the name of the command's file.
 use Rattle.std.proofs.Common.{◌≡◌, ◌≢◌, ◌∙◌, ◌<◌, ◌+◌, ◌-◌, ◌==◌, ◌&&◌, ℕ, zero, suc, Bool, true, false, cond, List, [], ◌∷◌, ◌++◌, take, drop, length, Option, Some, slice_get, refl, sym, ap, subst, arith, inl, inr, codes, true≢false}
 use Rattle.std.specs.Prelude.{IsSome, IsSomeAnd, nat_eq}
 use Rattle.std.specs.List.{Contains, position_or_len}
@@ -87,7 +87,7 @@ protocol-key file front ends = subst (λ f. HasKind (key_of f) file_kind.Protoco
 has-protocol : (e : Entry) (kind : FileKind) → HasKind e.key kind → HasKind e.key file_kind.Protocol → IsOfKind kind e.unit → IsSome e.unit.protocol
 has-protocol e kind is wanted unit = subst (λ k. IsOfKind k e.unit) (kind_one e.key kind file_kind.Protocol is wanted) unit
 
--- which bears the name of the file, since no rule is broken
+-- which has the name of the file, since no rule is broken
 bears : (given : LoadInput) (e : Entry) (rest : List Entry) (p : ProtocolDecl) → IsProgramOf given (e ∷ rest) → e.unit.protocol ≡ Some p → bytes_eq (short_name p.full ++ codes ".ipdl") e.key ≡ true
 bears given e rest p is protocol = elim (cases_Bool (bytes_eq (short_name p.full ++ codes ".ipdl") e.key)) [
   | inl t ↦ t
@@ -100,7 +100,7 @@ bears given e rest p is protocol = elim (cases_Bool (bytes_eq (short_name p.full
         differ : bytes_eq (short_name p.full ++ codes ".ipdl") e.key ≡ false → short_name p.full ++ codes ".ipdl" ≢ e.key
         differ f same = true≢false (sym (same_text e.key) ∙ ap (λ t. bytes_eq t e.key) (sym same) ∙ f)
 
--- The row of the first file's protocol bears the name too.
+-- The row of the first file's protocol has the name too.
 row-bears : (given : LoadInput) (e : Entry) (rest : List Entry) (p : ProtocolDecl) (schema : Schema) → IsProgramOf given (e ∷ rest) → e.unit.protocol ≡ Some p → IsSchemaOf (e ∷ rest) schema
     → (i : ℕ) × (row : ProtocolRow) × (slice_get schema.protocols i ≡ Some row) × (bytes_eq (short_name row.name ++ codes ".ipdl") e.key ≡ true)
 row-bears given e rest p schema is protocol of =
@@ -127,7 +127,7 @@ top-of given schema file front (e ∷ rest) words ends is whole of =
       },
     )
 
--- Where the words are one file of a protocol, what was found of it has a protocol that bears its name.
+-- If the words are one file of a protocol, what was found of it has a protocol with its name.
 pub has_top : (given : LoadInput) (lists : FileMap) (list : Option (List ℕ)) (file front : List ℕ) → given.words ≡ file ∷ [] → file ≡ front ++ codes ".ipdl" → (checked : CheckResult) → IsChecked given lists list checked → HasTop file checked
 has_top given lists list file front words ends (Broken report) h = tt
 has_top given lists list file front words ends (Clean schema) h = top-of given schema file front h.0.program words ends h.0.reading.is_program h.0.reading.whole h.0.schema_of
@@ -142,7 +142,7 @@ shorter x xs e same =
     let long : length e ≡ suc (length xs + length e) = ap length same ∙ ap suc (length-append xs e) in
     omega (arith, long)
 
--- two texts with one ending are the same where their fronts are
+-- two texts with one ending are the same if their prefixes are
 pub ending-cancel : (xs ys e : List ℕ) → bytes_eq (xs ++ e) (ys ++ e) ≡ bytes_eq xs ys
 ending-cancel [] [] e = same_text e
 ending-cancel [] (y ∷ ys) e = unlike e (y ∷ ys ++ e) (shorter y ys e)

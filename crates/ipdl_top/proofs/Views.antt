@@ -9,7 +9,7 @@ use Rattle.ipdl_top.specs.FileViews.{AgreeParts, FileViews, ForMap, ForViews, Re
 regrouped : (log files list script input : List ReadEntry) → ((((log ++ files) ++ list) ++ script) ++ input) ≡ log ++ (files ++ (list ++ (script ++ input)))
 regrouped log files list script input = simp append_assoc
 
--- a map that is told agrees with each part
+-- a known map agrees with each part
 agreed : (told : Option FileMap) (parts : ReadParts) → IfSome told (λ map. Agrees map parts.files) → IfSome told (λ map. Agrees map parts.list) → IfSome told (λ map. Agrees map parts.script)
     → IfSome told (λ map. Agrees map parts.input) → IfSome told (λ map. AgreeParts (steady map) parts)
 agreed None parts files list script input = tt
@@ -57,7 +57,7 @@ for_each_view P Q to h = record { parts = h.parts; logged = h.logged; told_agree
 pub some_seen : {told : Option FileMap} {old new : List ReadEntry} (P : FileViews → Type 0) → ForViews told old new P → (seen : FileViews) × P seen
 some_seen P h = (h.consistent.0, h.each h.consistent.0 h.consistent.1)
 
--- the map that is told is seen
+-- the known map is seen
 pub of_reads : (told : Option FileMap) {old new : List ReadEntry} (P : FileViews → Type 0) → ForViews told old new P → ForMap told P
 of_reads None P h = some_seen P h
 of_reads (Some map) P h = h.each (steady map) h.told_agrees

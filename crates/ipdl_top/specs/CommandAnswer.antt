@@ -1,5 +1,5 @@
 -- What the program answers.
-use Rattle.std.specs.Prelude.{◌≡◌, ◌≢◌, ◌⊎◌, ℕ, List, [], ◌∷◌, ◌++◌, map, length, Option, None, IsSomeAnd}
+use Rattle.std.specs.Prelude.{◌≡◌, ◌≢◌, ◌⊎◌, ℕ, List, [], ◌++◌, map, length, Option, IsSomeAnd}
 use Rattle.ipdl_base.specs.Outside.{FileMap}
 use Rattle.ipdl_base.specs.declared.finding.Finding.{Finding}
 use Rattle.ipdl_base.specs.declared.finding.Report.{Report}
@@ -15,7 +15,7 @@ use Rattle.include_graph.specs.Sources.{LoadInput, text_of}
 use Rattle.sync_list.specs.declared.list.Section.{Section}
 use Rattle.sync_list.specs.Broken as sync
 use Rattle.type_rules.specs.Broken as types
-use Rattle.proto_rules.specs.Broken as protocols
+use Rattle.program_schema.specs.ProtocolRules as protocols
 use Rattle.program_schema.specs.SchemaOf.{IsSchemaOf}
 use Rattle.actor_tables.specs.TableText.{table_text}
 use Rattle.ipdl_top.specs.declared.answer.CommandAnswer.{CommandAnswer}
@@ -23,9 +23,10 @@ use Rattle.ipdl_top.specs.declared.rendering.Rendering.TheVariants.{Transcript}
 use Rattle.ipdl_top.specs.declared.status.Status.TheVariants.{Done, Broken, Usage}
 use Rattle.ipdl_top.specs.Audit.{SaysAudit}
 use Rattle.ipdl_top.specs.Command.{usage_text}
+use Rattle.ipdl_top.specs.CommandFiles.{NamedView, files_by, given_by, names_read, seen_by}
 use Rattle.ipdl_top.specs.Feed.{SaysFeed}
 use Rattle.ipdl_top.specs.Frames.{SaysFrames}
-use Rattle.ipdl_top.specs.Gen.{SaysGen, case_files, case_path, holder_name}
+use Rattle.ipdl_top.specs.Gen.{SaysGen}
 use Rattle.ipdl_top.specs.Lists.{IsFaultOfList, AreSections, list_names}
 use Rattle.ipdl_top.specs.Relay.{Relaying, SaysRelay}
 use Rattle.ipdl_top.specs.Report.{TellsReport}
@@ -43,7 +44,7 @@ usage_answer = record { status = Usage; out = []; err = usage_text }
 
 -- Rules on files
 
--- What the files of the reach break by how they are read and named, and what the list breaks as the file behind them.
+-- What the files of the reach break by how they are read and named, and what the list breaks as the file after them.
 abbrev pub IsBrokenFile : LoadInput → FileMap → Option (List ℕ) → List (List ℕ) → Finding → Type 0
 IsBrokenFile given lists list keys f = IsBroken given keys f ⊎ IsFaultOfList lists list (length keys) f
 
@@ -57,13 +58,13 @@ pub record IsFileReport (given : LoadInput) (lists : FileMap) (list : Option (Li
 
 -- Rules of the language
 
--- No rule on files is broken: this is the program, and these are the sections of the list where one is named.
+-- No rule on files is broken: this is the program, and these are the sections of the list, if one is named.
 pub record IsReading (given : LoadInput) (lists : FileMap) (list : Option (List ℕ)) (program : List Entry) (sections : Option (List Section)) : Type 0 where
   pub is_program : IsProgramOf given program
   pub whole : IsProgram program
   pub are_sections : AreSections lists list sections
 
--- What a program breaks: rules on types and on protocols, and where there is a list those of the list.
+-- What a program breaks: rules on types and on protocols, and if there is a list, those of the list.
 abbrev pub BreaksRules : List Entry → Option (List Section) → Finding → Type 0
 BreaksRules program sections f =
     types.BrokenAt program f ⊎ (protocols.BrokenAt program f ⊎ IsSomeAnd sections (λ list. sync.BrokenAt program list f))
@@ -101,24 +102,25 @@ IsCompilation Says given lists list answer =
 abbrev pub SaysTables : Schema → CommandAnswer → Type 0
 SaysTables schema answer = answer ≡ table_answer (table_text schema)
 
--- what words of files and a path give, with these files
-abbrev pub given_by : FileMap → List (List ℕ) → List (List ℕ) → LoadInput
-given_by files path names = record { files = files; words = names; path = path }
+-- What a command says of the schema of its program, by what is seen of its script and its input. Without a word of turns a run
+-- goes as the driver gives it, and a relay goes as `Relays` gives it.
+abbrev pub SaysOf : Driving → Relaying → FileViews → CommandView → Schema → CommandAnswer → Type 0
+SaysOf Gives Relays seen (compile list path names) = SaysTables
+SaysOf Gives Relays seen (frames list path file name convert) = SaysFrames name convert (seen.input name)
+SaysOf Gives Relays seen (waits list path file) = SaysWaits file
+SaysOf Gives Relays seen (run list path course script file) = SaysRun Gives Transcript course script (seen.script script) file
+SaysOf Gives Relays seen (gen rounds actors) = SaysGen Gives rounds actors
+SaysOf Gives Relays seen (feed list path course script file name) = SaysFeed course script (seen.script script) name (seen.input name) file
+SaysOf Gives Relays seen (audit list path limit script file name) = SaysAudit limit script (seen.script script) name (seen.input name) file
+SaysOf Gives Relays seen (relay list path course script file) = SaysRelay Relays course script (seen.script script) file
 
--- The answer to what words say, with these files; a run goes as the driver has it, where no word of turns is given, and a
--- relay as what relays has it. A
--- generated case has files of its own, and no others are looked at.
+-- the answer of a command by files of these names, of which this is seen
+abbrev pub IsAnswerBy : (Schema → CommandAnswer → Type 0) → NamedView → FileViews → CommandAnswer → Type 0
+IsAnswerBy Says names seen answer = IsCompilation Says (given_by seen.files names.path names.program) seen.list names.list answer
+
+-- The answer to a command, with these files.
 abbrev pub AnswersTo : Driving → Relaying → FileViews → CommandView → CommandAnswer → Type 0
-AnswersTo Gives Relays seen (compile list path names) answer = IsCompilation SaysTables (given_by seen.files path names) seen.list list answer
-AnswersTo Gives Relays seen (frames list path file name convert) answer = IsCompilation (SaysFrames name convert (seen.input name)) (given_by seen.files path (file ∷ [])) seen.list list answer
-AnswersTo Gives Relays seen (waits list path file) answer = IsCompilation (SaysWaits file) (given_by seen.files path (file ∷ [])) seen.list list answer
-AnswersTo Gives Relays seen (run list path course script file) answer = IsCompilation (SaysRun Gives Transcript course script (seen.script script) file) (given_by seen.files path (file ∷ [])) seen.list list answer
-AnswersTo Gives Relays seen (gen rounds actors) answer = IsCompilation (SaysGen Gives rounds actors) (given_by (case_files rounds actors) case_path (holder_name ∷ [])) (case_files rounds actors) None answer
-AnswersTo Gives Relays seen (feed list path course script file name) answer =
-    IsCompilation (SaysFeed course script (seen.script script) name (seen.input name) file) (given_by seen.files path (file ∷ [])) seen.list list answer
-AnswersTo Gives Relays seen (audit list path limit script file name) answer =
-    IsCompilation (SaysAudit limit script (seen.script script) name (seen.input name) file) (given_by seen.files path (file ∷ [])) seen.list list answer
-AnswersTo Gives Relays seen (relay list path course script file) answer = IsCompilation (SaysRelay Relays course script (seen.script script) file) (given_by seen.files path (file ∷ [])) seen.list list answer
+AnswersTo Gives Relays seen command answer = IsAnswerBy (SaysOf Gives Relays (seen_by (files_by command) seen) command) (names_read (files_by command)) (seen_by (files_by command) seen) answer
 
 -- the words are a command, and the answer is the one to it
 pub record IsCommandAnswer (Gives : Driving) (Relays : Relaying) (seen : FileViews) (words : List (List ℕ)) (answer : CommandAnswer) : Type 0 where
@@ -126,6 +128,6 @@ pub record IsCommandAnswer (Gives : Driving) (Relays : Relaying) (seen : FileVie
   pub said : Say words command
   pub answers : AnswersTo Gives Relays seen command answer
 
--- The answer to words, with these files: that of the command that they are, or how the program is called where they are none.
+-- The answer to words, with these files: that of the command that they are, or how the program is called if they are not a command.
 abbrev pub IsAnswer : Driving → Relaying → FileViews → List (List ℕ) → CommandAnswer → Type 0
 IsAnswer Gives Relays seen words answer = IsCommandAnswer Gives Relays seen words answer ⊎ (IsNoCommand words × (answer ≡ usage_answer))

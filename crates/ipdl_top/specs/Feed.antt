@@ -1,5 +1,5 @@
 -- What the command that runs one end on a file of bytes says of a schema.
-use Rattle.std.specs.Prelude.{◌≡◌, ℕ, ◌≤◌, ◌<◌, ◌⊎◌, Bool, true, false, if◌then◌else◌, List, [], ◌++◌, length, Option, Some, None, codes}
+use Rattle.std.specs.Prelude.{◌≡◌, ℕ, Bool, true, false, if◌then◌else◌, List, [], ◌++◌, Option, Some, None, codes}
 use Rattle.std.specs.Fmt.{decimal}
 use Rattle.ipdl_base.specs.declared.files.TheConstants.{MOST_BYTES}
 use Rattle.ipdl_base.specs.declared.kinds.Side.{Side}
@@ -10,7 +10,7 @@ use Rattle.channel_model.specs.Ends.{Packet}
 use Rattle.command_words.specs.Feed.{FeedCourse}
 use Rattle.feed_runs.specs.declared.fault.FeedFault.{FeedFault}
 use Rattle.feed_runs.specs.declared.fault.FeedFault.TheVariants as fault
-use Rattle.feed_runs.specs.FeedTurns.{Feed, FeedSetting}
+use Rattle.feed_runs.specs.FeedTurns.{Feed}
 use Rattle.order_statements.specs.Effects.{Effects}
 use Rattle.frame_list.specs.declared.list.FrameListFault.TheVariants as unread
 use Rattle.frame_list.specs.Frames.{frame_rule}
@@ -19,17 +19,18 @@ use Rattle.handler_script.specs.declared.script.Script.{Script}
 use Rattle.history.specs.Text.{numbered, transcript_text}
 use Rattle.law_statements.specs.Fallen.{Fallen}
 use Rattle.law_statements.specs.Readable.{Readable}
+use Rattle.script_steps.specs.Choices.{Setting}
 use Rattle.script_steps.specs.Turns.{RunEnding, at_limit, at_rest}
 use Rattle.ipdl_top.specs.declared.answer.CommandAnswer.{CommandAnswer}
 use Rattle.ipdl_top.specs.declared.status.Status.{Status}
 use Rattle.ipdl_top.specs.declared.status.Status.TheVariants as status
-use Rattle.ipdl_top.specs.Frames.{absent_answer, larger_answer}
+use Rattle.ipdl_top.specs.Inputs.{SaysByInput}
 use Rattle.script_runs.specs.Endings.{ending_line}
 use Rattle.ipdl_top.specs.Scripts.{SaysByScript}
 
 -- what a feed is about
-abbrev pub feed_setting : Schema → Script → FeedCourse → FeedSetting
-feed_setting schema script course = record { schema = schema; script = script; side = course.side; limit = course.limit }
+abbrev pub feed_setting : Schema → Script → FeedCourse → Setting
+feed_setting schema script course = record { schema = schema; script = script; stop = None; limit = course.limit }
 
 -- how the command ends: the end may be spent, and else a fault may be kept
 abbrev pub feed_status : Bool → Option FeedFault → Status
@@ -58,26 +59,24 @@ feed_answer schema name side lines kept spent =
     record { status = feed_status spent kept; out = transcript_text schema lines ++ ending_line (feed_ending side spent); err = kept_text name kept }
 
 -- The answer is the feed of the bytes: its lines, the fault that is kept, and whether the end is spent. The lines can be
--- read, and what they settle and go on with comes of the packets that were delivered; managed actors fall before managers, and
+-- read, and what they settle and continue with results from the packets that were delivered; managed actors fall before managers, and
 -- each event has the effects that it owes.
 pub record SaysFed (course : FeedCourse) (name bytes : List ℕ) (schema : Schema) (script : Script) (answer : CommandAnswer) : Type 0 where
   pub lines : List Line
   pub packets : List Packet
   pub kept : Option FeedFault
   pub spent : Bool
-  pub feed : Feed (feed_setting schema script course) bytes lines packets kept spent
+  pub feed : Feed (feed_setting schema script course) course.side bytes lines packets kept spent
   pub readable : Readable schema lines
   pub alone : Alone schema script.top course.side lines packets
   pub fallen : Fallen schema lines
   pub owed : Effects schema lines
   pub says : answer ≡ feed_answer schema name course.side lines kept spent
 
--- the answer for a file of frames of this name, of which this is held
+-- the answer for a file of frames of this name and its bytes
 abbrev pub SaysFedOf : FeedCourse → List ℕ → Option (List ℕ) → Schema → Script → CommandAnswer → Type 0
-SaysFedOf course name None schema script answer = answer ≡ absent_answer name
-SaysFedOf course name (Some bytes) schema script answer =
-    ((MOST_BYTES < length bytes) × (answer ≡ larger_answer name)) ⊎ ((length bytes ≤ MOST_BYTES) × SaysFed course name bytes schema script answer)
+SaysFedOf course name bytes schema script = SaysByInput status.BadFrames MOST_BYTES (λ bytes. SaysFed course name bytes schema script) name bytes
 
--- The answer is that for a script and a file of frames of these names, of which this is held.
+-- The answer is that for a script and a file of frames of these names and their bytes.
 abbrev pub SaysFeed : FeedCourse → List ℕ → Option (List ℕ) → List ℕ → Option (List ℕ) → List ℕ → Schema → CommandAnswer → Type 0
-SaysFeed course script held frames bytes file schema answer = SaysByScript (SaysFedOf course frames bytes schema) script held file schema answer
+SaysFeed course script text frames bytes file schema answer = SaysByScript (SaysFedOf course frames bytes schema) script text file schema answer

@@ -3,7 +3,7 @@ use Rattle.std.specs.Prelude.{◌≡◌, List, ◌++◌, Option, Some, None, IfS
 use Rattle.ipdl_base.specs.Outside.{FileMap}
 use Rattle.file_log.specs.Log.{Agrees, ReadEntry}
 
--- What each name has: while the files of a program are read, when the sync list is, behind them, when the script is, and
+-- What each name has: while the files of a program are read, then when the sync list is read, when the script is, and
 -- when the file that is the input is, as one of frames or a text to audit.
 pub record FileViews : Type 0 where
   pub files : FileMap
@@ -15,7 +15,7 @@ pub record FileViews : Type 0 where
 abbrev pub steady : FileMap → FileViews
 steady map = record { files = map; list = map; script = map; input = map }
 
--- For the files as the map that is told has them, which stay so. Where none is told, for some: a file that is read as
+-- For the files as the known map has them, which stay so. If no map is known, for some: a file that is read as
 -- one of the program and again as the list, as the script or as the input may have changed.
 abbrev pub ForMap : Option FileMap → (FileViews → Type 0) → Type 0
 ForMap None P = (seen : FileViews) × P seen
@@ -39,8 +39,8 @@ pub record AgreeParts (seen : FileViews) (parts : ReadParts) : Type 0 where
   pub script : Agrees seen.script parts.script
   pub input : Agrees seen.input parts.input
 
--- The reads of a call, by which the log grew: a map that is told agrees with them, and so do some views in any case; and
--- this holds for all views that agree with them.
+-- The reads of a call, by which the log grew: a known map agrees with them, and so do some views in any case; and the property
+-- holds for all views that agree with them.
 pub record ForViews (told : Option FileMap) (old new : List ReadEntry) (P : FileViews → Type 0) : Type 0 where
   pub parts : ReadParts
   pub logged : new ≡ old ++ all_reads parts

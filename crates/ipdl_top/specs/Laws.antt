@@ -9,7 +9,7 @@ use Rattle.ipdl_top.specs.Relay.{Relaying}
 use Rattle.ipdl_top.specs.Run.{Driving}
 use Rattle.ipdl_top.specs.declared.status.Status.TheVariants.{Spent}
 
--- The words leave the answer to nobody: where they run a script, they give a word of turns; and where they run one over two
+-- The words leave the answer to no driver: if they run a script, they give a word of turns; and if they run one over two
 -- queues, the answer is not that a side is spent.
 abbrev pub LeavesNothing : List (List ℕ) → CommandAnswer → Type 0
 LeavesNothing words answer =

@@ -1,10 +1,10 @@
 -- What the command that runs a script over two queues says of a schema.
-use Rattle.std.specs.Prelude.{◌≡◌, ◌≤◌, ◌*◌, ℕ, List, [], ◌++◌, map, Option}
+use Rattle.std.specs.Prelude.{◌≡◌, ◌≤◌, ◌*◌, ℕ, List, ◌++◌, map, Option}
 use Rattle.std.specs.List.{AllByRecursion}
 use Rattle.ipdl_base.specs.declared.kinds.Side.{Side}
 use Rattle.ipdl_base.specs.declared.line.Line.{Line}
 use Rattle.ipdl_base.specs.declared.schema.Schema.{Schema}
-use Rattle.channel_model.specs.Numbers.{other}
+use Rattle.ipdl_base.specs.Sides.{other}
 use Rattle.channel_model.specs.Runs.{IsLegalHistory}
 use Rattle.channel_model.specs.Sends.{frames_of}
 use Rattle.channel_model.specs.States.{IsAnswered}
@@ -30,9 +30,9 @@ use Rattle.order_statements.specs.Laws.{Owed}
 use Rattle.order_statements.specs.Order.{Order}
 use Rattle.progress_laws.specs.Acts.{acts, by_themselves}
 use Rattle.progress_laws.specs.Rest.{IsRestingWorld}
-use Rattle.world_laws.specs.Statements.{IsLawfulHistory}
+use Rattle.order_statements.specs.Lawful.{IsLawfulHistory}
 use Rattle.ipdl_top.specs.declared.answer.CommandAnswer.{CommandAnswer}
-use Rattle.ipdl_top.specs.Run.{answer_of, run_status}
+use Rattle.ipdl_top.specs.Ended.{answer_of, ended_answer}
 use Rattle.ipdl_top.specs.Scripts.{SaysByScript}
 
 -- what a relay gives: the world as it begins, the lines of both ends, and how it ended
@@ -51,16 +51,12 @@ half_lines history = map plain_line history.lines
 abbrev pub halves_text : Schema → Halves → List ℕ
 halves_text schema halves = transcript_text schema (half_lines halves.parent) ++ transcript_text schema (half_lines halves.child)
 
--- the answer that is a text of both halves, and behind it how the relay ended
-abbrev pub relay_answer : List ℕ → RunEnding → CommandAnswer
-relay_answer text ending = record { status = run_status ending; out = text ++ ending_line ending; err = [] }
-
 -- The answer has what each end has seen, as the relay gives it: both ends have come there by steps, and a packet reaches one
 -- only after the other has sent it. There is one history of the script whose lines by side are those of the two ends, with
 -- each packet delivered as it was sent. That history is legal and all five laws hold of it; with the line of the ending its
 -- transcript is a legal text. What an end takes there is the first that it does not defer, each event gives what it owes, and
 -- what happens by itself is at most six events for each act. The relay is finished exactly where nothing is left to do there,
--- and then both ends are at rest and no end waits; it is spent only where a side has something to do but as many events as the limit. And each end obeys what one end by itself
+-- and then both ends are at rest and no end waits; it is spent only where a side has something to do, but already has the most events. Each end obeys what one end by itself
 -- obeys, with what was delivered to it; the lines of each can be read, and managed actors fall before managers.
 pub record SaysRelayed (Relays : Relaying) (course : RelayCourse) (schema : Schema) (script : Script) (answer : CommandAnswer) : Type 0 where
   pub halves : Halves
@@ -81,8 +77,8 @@ pub record SaysRelayed (Relays : Relaying) (course : RelayCourse) (schema : Sche
   pub parent_fallen : Fallen schema (half_lines halves.parent)
   pub child_readable : Readable schema (half_lines halves.child)
   pub child_fallen : Fallen schema (half_lines halves.child)
-  pub says : answer ≡ relay_answer (halves_text schema halves) ending
+  pub says : answer ≡ ended_answer (halves_text schema halves) ending
 
--- The answer is that for a script of this name, of which this is held.
+-- The answer is that for a script of this name and its bytes.
 abbrev pub SaysRelay : Relaying → RelayCourse → List ℕ → Option (List ℕ) → List ℕ → Schema → CommandAnswer → Type 0
-SaysRelay Relays course name held file schema answer = SaysByScript (SaysRelayed Relays course schema) name held file schema answer
+SaysRelay Relays course name text file schema answer = SaysByScript (SaysRelayed Relays course schema) name text file schema answer

@@ -21,7 +21,7 @@ report_text names report = flat_map (finding_line names) report
 abbrev pub broken_answer : Status → Report → CommandAnswer
 broken_answer status report = record { status = status; out = []; err = report_text report.names report.findings }
 
--- The answer is a report of which this holds, with this status.
+-- The answer is a report with this property, and with this status.
 pub record TellsReport (status : Status) (Holds : Report → Type 0) (answer : CommandAnswer) : Type 0 where
   pub report : Report
   pub holds : Holds report

@@ -1,5 +1,5 @@
 -- What the command that runs a script says of a schema.
-use Rattle.std.specs.Prelude.{◌≡◌, ◌≤◌, ◌*◌, ℕ, List, [], ◌++◌, Option, Some, None}
+use Rattle.std.specs.Prelude.{◌≡◌, ◌≤◌, ◌*◌, ℕ, List, ◌++◌, Option, Some, None}
 use Rattle.ipdl_base.specs.declared.kinds.Side.{Side}
 use Rattle.ipdl_base.specs.declared.line.Line.{Line}
 use Rattle.ipdl_base.specs.declared.schema.Schema.{Schema}
@@ -16,11 +16,10 @@ use Rattle.progress_laws.specs.Rest.{IsRestingWorld}
 use Rattle.relay_history.specs.SidesAlone.{SideObeysAlone}
 use Rattle.script_runs.specs.Endings.{ending_line}
 use Rattle.script_steps.specs.Choices.{IsCaseHistory, Setting}
-use Rattle.script_steps.specs.Turns.{RunEnding, at_limit, at_rest}
+use Rattle.script_steps.specs.Turns.{RunEnding, at_rest}
 use Rattle.script_transcripts.specs.Legal.{IsLegalText}
 use Rattle.schedules.specs.declared.turn.Turn.{Turn}
 use Rattle.world_core.specs.declared.answers.RunAnswer.{RunAnswer}
-use Rattle.world_core.specs.declared.answers.RunAnswer.TheVariants as run
 use Rattle.world_core.specs.Turns.{StandsAs, WordGives}
 use Rattle.world_core.specs.WorldView.{WorldView, opening_of}
 use Rattle.law_statements.specs.Fallen.{Fallen}
@@ -32,15 +31,14 @@ use Rattle.law_statements.specs.Waits.{Waits}
 use Rattle.ipdl_top.specs.declared.answer.CommandAnswer.{CommandAnswer}
 use Rattle.ipdl_top.specs.declared.rendering.Rendering.{Rendering}
 use Rattle.ipdl_top.specs.declared.rendering.Rendering.TheVariants as rendering
-use Rattle.ipdl_top.specs.declared.status.Status.{Status}
-use Rattle.ipdl_top.specs.declared.status.Status.TheVariants as status
+use Rattle.ipdl_top.specs.Ended.{answer_of, ended_answer}
 use Rattle.ipdl_top.specs.Scripts.{SaysByScript}
 
--- what a driver gives: the world before, the world behind, and how the run ended
+-- what a driver gives: the world before, the world after, and how the run ended
 abbrev pub Driving : Type 1
 Driving = WorldView → WorldView → RunAnswer → Type 0
 
--- How a run is made: by its word of turns, where one is given, and else as the driver has it.
+-- How a run is made: by its word of turns, if one is given, and else as the driver gives it.
 abbrev pub IsMade : Driving → Option (List Turn) → WorldView → WorldView → RunAnswer → Type 0
 IsMade Gives None before after ending = Gives before after ending
 IsMade Gives (Some word) before after ending = WordGives before word ending after
@@ -49,30 +47,20 @@ IsMade Gives (Some word) before after ending = WordGives before word ending afte
 abbrev pub setting_by : Schema → Script → Course → Setting
 setting_by schema script course = record { schema = schema; script = script; stop = course.death; limit = course.limit }
 
--- how the command ends by how the run did
-abbrev pub run_status : RunEnding → Status
-run_status at_rest = status.Done
-run_status (at_limit side) = status.Spent
-
--- the answer of a run that ended so
-abbrev pub answer_of : RunEnding → RunAnswer
-answer_of at_rest = run.Finished
-answer_of (at_limit side) = run.Spent side
-
 -- the text of a history: its transcript, or its summary
 abbrev pub rendered : Rendering → Schema → List Line → List ℕ
 rendered rendering.Transcript schema lines = transcript_text schema lines
 rendered (rendering.Summary rounds actors) schema lines = summary_text rounds actors (counts_of lines)
 
--- the answer that is a text of a history, and behind it how the run ended
+-- the answer that is a text of a history, and after it how the run ended
 abbrev pub run_answer : Rendering → Schema → List Line → RunEnding → CommandAnswer
-run_answer shown schema lines ending = record { status = run_status ending; out = rendered shown schema lines ++ ending_line ending; err = [] }
+run_answer shown schema lines ending = ended_answer (rendered shown schema lines) ending
 
 -- The answer is one history of both ends. It is made by the word or as the driver has it, and is the script's own and legal.
 -- It can be read, and all five laws hold of it: what is delivered is what was sent; what is taken goes to the living actor
 -- of its id, or is dropped; no two waits block each other; a closed end's promises are settled once each; and managed
 -- actors fall before managers. Where it is finished nothing is left to do and no end waits; and where it is spent, that
--- side has something to do but as many events as the limit. Where it is finished both ends are at rest besides: nothing is
+-- side has something to do, but already has the most events. Where it is finished both ends are at rest besides: nothing is
 -- left at either, and both are open with nothing on a link, or both have ended. What happens by itself is at most six events
 -- for each act of a handler or a main. Each side by itself obeys what one end obeys, by what was delivered to it. What an end
 -- takes is the first that it does not defer; and each event gives what it owes: actors that it builds or that fall, answers, and
@@ -99,6 +87,6 @@ pub record SaysHistory (Gives : Driving) (shown : Rendering) (course : Course) (
   pub legal_text : IsLegalText (setting_by schema script course) (transcript_text schema after.state.lines ++ ending_line ending)
   pub says : answer ≡ run_answer shown schema after.state.lines ending
 
--- The answer is that for a script of this name, of which this is held, where the protocol of the file is the top.
+-- The answer is that for a script of this name and its bytes, where the protocol of the file is the top.
 abbrev pub SaysRun : Driving → Rendering → Course → List ℕ → Option (List ℕ) → List ℕ → Schema → CommandAnswer → Type 0
-SaysRun Gives shown course name held file schema answer = SaysByScript (SaysHistory Gives shown course schema) name held file schema answer
+SaysRun Gives shown course name text file schema answer = SaysByScript (SaysHistory Gives shown course schema) name text file schema answer

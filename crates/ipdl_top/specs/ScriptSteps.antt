@@ -1,4 +1,4 @@
--- What the steps make that look at a script.
+-- What the steps that look at a script make.
 use Rattle.std.specs.Prelude.{◌≡◌, ℕ, ◌≤◌, ◌<◌, ◌⊎◌, List, length, Option, Some, None}
 use Rattle.ipdl_base.specs.declared.files.TheConstants.{MOST_BYTES}
 use Rattle.ipdl_base.specs.declared.schema.Schema.{Schema}
@@ -9,7 +9,7 @@ use Rattle.ipdl_top.specs.declared.scripts.ScriptCheck.TheVariants.{Broken, Vali
 use Rattle.ipdl_top.specs.Scripts.{IsScriptReport, unreadable_report}
 use Rattle.ipdl_top.specs.Waits.{IsTop}
 
--- what the text of a script was found to be
+-- what was found of the text of a script
 abbrev pub IsTextChecked : List ℕ → List ℕ → Schema → ℕ → ScriptCheck → Type 0
 IsTextChecked name text schema top (Broken report) = IsScriptReport name text schema top report
 IsTextChecked name text schema top (Valid script) = IsScriptOf text schema top script
@@ -19,13 +19,13 @@ abbrev pub IsUnreadable : List ℕ → ScriptCheck → Type 0
 IsUnreadable name (Broken report) = report ≡ unreadable_report name
 IsUnreadable name (Valid script) = ⊥
 
--- what a script of which this is held was found to be
+-- what was found of a script by its bytes
 abbrev pub IsHeldChecked : List ℕ → Option (List ℕ) → Schema → ℕ → ScriptCheck → Type 0
 IsHeldChecked name None schema top checked = IsUnreadable name checked
 IsHeldChecked name (Some text) schema top checked =
     ((MOST_BYTES < length text) × IsUnreadable name checked) ⊎ ((length text ≤ MOST_BYTES) × IsTextChecked name text schema top checked)
 
--- what was found of a script of which this is held, where the protocol of the file is the top
+-- what was found of a script by its bytes, where the protocol of the file is the top
 pub record IsScriptChecked (name : List ℕ) (held : Option (List ℕ)) (file : List ℕ) (schema : Schema) (checked : ScriptCheck) : Type 0 where
   pub top : ℕ
   pub is_top : IsTop file schema top

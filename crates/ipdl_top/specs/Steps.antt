@@ -1,4 +1,4 @@
--- What the steps of a compilation make.
+-- What the steps of a command find and make.
 use Rattle.std.specs.Prelude.{◌≡◌, ◌≢◌, ℕ, ◌⊎◌, List, [], ◌++◌, length, map, Option, Some, None}
 use Rattle.std.specs.List.{Contains}
 use Rattle.ipdl_base.specs.declared.files.FileBytes.{FileBytes}
@@ -22,37 +22,35 @@ use Rattle.ipdl_top.specs.declared.list.SyncListFile.TheVariants as list
 use Rattle.ipdl_top.specs.declared.checked.CheckResult.{CheckResult}
 use Rattle.ipdl_top.specs.declared.checked.CheckResult.TheVariants.{Broken, Clean}
 use Rattle.ipdl_top.specs.declared.status.Status.TheVariants as status
-use Rattle.ipdl_top.specs.declared.frames.FramesRequest.{FramesRequest}
 use Rattle.ipdl_top.specs.CommandAnswer.{BreaksRules, IsFileReport, IsRuleReport, IsSchemaRead}
-use Rattle.ipdl_top.specs.Frames.{SaysFrames}
 use Rattle.ipdl_top.specs.Report.{broken_answer}
 use Rattle.ipdl_top.specs.Waits.{IsTop}
 use Rattle.ipdl_top.specs.Lists.{AreSections, IsFaultOfList, IsListFault, SpellsList, list_names}
 
 -- Files
 
--- what a file of a program, a list, a script or a file of frames was found to be
+-- what was found of a file of a program, a list, a script or a file of frames, by its bytes
 abbrev pub IsHeld : Option (List ℕ) → FileBytes → Type 0
 IsHeld held file = IsHeldWithin MOST_BYTES held file
 
--- a file that was read has no more bytes than are read of such a file
+-- a file that was read has at most the bytes that are read of such a file
 abbrev pub IsSmall : FileBytes → Type 0
 IsSmall file = HasAtMost MOST_BYTES file
 
--- how many files were read
+-- the number of files that were read
 abbrev pub file_count : LoadResult → ℕ
 file_count (load.Whole program) = length program
 file_count (load.Broken files) = length files.names
 
 -- The sync list
 
--- what a list that holds this was found to be, as the file of this number
+-- what was found of a list by its bytes, as the file of this number
 abbrev pub IsFound : Option (List ℕ) → ℕ → SyncListFile → Type 0
 IsFound held number (list.Sections None) = ⊥
 IsFound held number (list.Sections (Some sections)) = SpellsList held sections
 IsFound held number (list.Broken finding) = IsListFault held number finding
 
--- what a list that is named or not was found to be, as the file of this number
+-- what was found of the list, if one is named, as the file of this number
 abbrev pub IsListed : FileMap → Option (List ℕ) → ℕ → SyncListFile → Type 0
 IsListed lists word number (list.Sections sections) = AreSections lists word sections
 IsListed lists word number (list.Broken finding) = IsFaultOfList lists word number finding
@@ -63,12 +61,12 @@ IsListed lists word number (list.Broken finding) = IsFaultOfList lists word numb
 abbrev pub names_of : List Entry → List (List ℕ)
 names_of program = map (λ e. e.name) program
 
--- The report of the findings of which this holds, on files that are called so and on the list behind them.
+-- The report of the findings with this property, on files of these names and on the list after them.
 pub record Reports (Holds : Finding → Type 0) (names : List (List ℕ)) (word : Option (List ℕ)) (report : Report) : Type 0 where
   pub is_report : IsReport Holds report.findings
   pub called : report.names ≡ names ++ list_names word
 
--- the report on a program, and on its list where it has one, which is not empty
+-- the report on a program, and on its list if it has one, which is not empty
 pub record AreRulesReported (program : List Entry) (sections : Option (List Section)) (word : Option (List ℕ)) (report : Report) : Type 0 where
   pub reports : Reports (BreaksRules program sections) (names_of program) word report
   pub some : report.findings ≢ []
@@ -90,11 +88,11 @@ IsListedChecked program (list.Sections sections) word checked = IsRuleChecked pr
 IsListedChecked program (list.Broken finding) word (Broken report) = Reports (λ f. f ≡ finding) (names_of program) word report
 IsListedChecked program (list.Broken finding) word (Clean schema) = ⊥
 
--- the report on files that break rules by how they are read and named, and on the list behind them
+-- the report on files that break rules by how they are read and named, and on the list after them
 abbrev pub ReportsWithList : BrokenFiles → SyncListFile → Option (List ℕ) → Report → Type 0
 ReportsWithList files listed word report = Reports (λ f. Contains files.findings f ⊎ (listed ≡ list.Broken f)) files.names word report
 
--- what was found of what was loaded, by what was found of the list behind its files
+-- what was found of what was loaded, by what was found of the list after its files
 abbrev pub IsLoadedChecked : LoadResult → SyncListFile → Option (List ℕ) → CheckResult → Type 0
 IsLoadedChecked (load.Whole program) listed word checked = IsListedChecked program listed word checked
 IsLoadedChecked (load.Broken files) listed word (Broken report) = ReportsWithList files listed word report
@@ -111,18 +109,19 @@ abbrev pub IsToldOf : (Schema → CommandAnswer → Type 0) → CheckResult → 
 IsToldOf Says (Broken report) answer = answer ≡ broken_answer status.Broken report
 IsToldOf Says (Clean schema) answer = Says schema answer
 
+-- the schema has this property, if one was found
+abbrev pub IfClean : (Schema → Type 0) → CheckResult → Type 0
+IfClean Holds (Broken report) = Unit {0}
+IfClean Holds (Clean schema) = Holds schema
+
 -- a schema that was found is sound
 abbrev pub IsSoundChecked : CheckResult → Type 0
-IsSoundChecked (Broken report) = Unit {0}
-IsSoundChecked (Clean schema) = IsSound schema
+IsSoundChecked checked = IfClean IsSound checked
 
--- a schema that was found has a protocol that bears the name of a file
+-- a schema has a protocol with the name of a file
+abbrev pub HasTopOf : List ℕ → Schema → Type 0
+HasTopOf file schema = (top : ℕ) × IsTop file schema top
+
+-- a schema that was found has one
 abbrev pub HasTop : List ℕ → CheckResult → Type 0
-HasTop file (Broken report) = Unit {0}
-HasTop file (Clean schema) = (top : ℕ) × IsTop file schema top
-
--- One command on one file
-
--- what a request says of a file of frames of which this is held
-abbrev pub frames_says : FramesRequest → Option (List ℕ) → Schema → CommandAnswer → Type 0
-frames_says wanted file = SaysFrames wanted.name.now wanted.convert file
+HasTop file checked = IfClean (HasTopOf file) checked

@@ -13,11 +13,11 @@ use Rattle.wait_report.specs.Pairs.{IsReport}
 use Rattle.ipdl_top.specs.declared.answer.CommandAnswer.{CommandAnswer}
 use Rattle.ipdl_top.specs.declared.status.Status.TheVariants.{Done}
 
--- whether a protocol bears the name of a file
+-- whether a protocol has the name of a file
 abbrev pub bears_name : List ℕ → ProtocolRow → Bool
 bears_name file row = bytes_eq (short_name row.name ++ codes ".ipdl") (key_of file)
 
--- The protocol of a file is the first that bears its name: in a program that breaks no rule there is one.
+-- The protocol of a file is the first with its name. A program that breaks no rule has one.
 pub record IsTop (file : List ℕ) (schema : Schema) (top : ℕ) : Type 0 where
   pub there : top < length schema.protocols
   pub first : position_or_len (bears_name file) schema.protocols ≡ top

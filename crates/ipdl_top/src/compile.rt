@@ -8,28 +8,22 @@ ghost use Rattle.include_graph.specs.Load.{IsAnswer, IsGood};
 ghost use Rattle.include_graph.specs.Sources.{LoadInput};
 ghost use Rattle.ipdl_base.specs.Outside.{FileMap};
 ghost use Rattle.ipdl_top.specs.CommandAnswer.{SaysTables};
-ghost use Rattle.ipdl_top.specs.Steps.{IsChecked, IsHeld, IsListedChecked, IsLoadedChecked, IsSmall, IsToldOf, ReportsWithList, file_count};
+ghost use Rattle.ipdl_top.specs.Steps.{IsChecked, IsHeld, IsListedChecked, IsLoadedChecked, IsSmall, IsSoundChecked, IsToldOf, ReportsWithList, file_count};
 
 use crate::answer::CommandAnswer;
 use crate::checked::CheckResult;
+use crate::exit::keep_until_exit;
 use crate::list::{SyncListFile, listed_of};
+use crate::pipeline::{BySchema, answer_by_schema};
 use crate::rules::{names_of, report_of, rule_checked};
-use crate::status::Status;
 use actor_tables::table_text;
 use include_graph::{BrokenFiles, LoadResult};
-use ipdl_base::{FileBytes, Finding, Findings, Report};
+use ipdl_base::{FileBytes, Finding, Findings, Report, Schema};
 use ipdl_syntax::Program;
 use std::alloc::{AllocError, Global};
-use std::mem::forget;
 
-/// Leaves what a command has found where it lies. The process ends right behind the command, and gives all of its
-/// memory back at once, so nothing is let go piece by piece.
-pub fn leave<T: Drop>(found: T) {
-    forget(found);
-}
-
-/// The number of the file behind those that were read.
-fn number_behind(loaded: &LoadResult) -> u32
+/// Returns the number of the file after those that were read.
+fn number_after(loaded: &LoadResult) -> u32
     requires { IsGood loaded.now }
     ensures { result ≡ file_count loaded.now }
 {
@@ -39,7 +33,7 @@ fn number_behind(loaded: &LoadResult) -> u32
     }
 }
 
-/// These findings, and what the list breaks.
+/// Returns these findings, and the one that the list breaks, if it breaks a rule.
 fn with_listed(findings: Findings, listed: &SyncListFile) -> Result<Vec<Finding>, AllocError>
     ensures { IfOk result (λ found. (f : TheFinding) → Contains found.items f ↔ (Contains findings f ⊎ (listed.now ≡ SyncListFile.Broken f))) }
 {
@@ -50,7 +44,7 @@ fn with_listed(findings: Findings, listed: &SyncListFile) -> Result<Vec<Finding>
     Ok(found)
 }
 
-/// The report on files that break rules by how they are read and named, and on the list behind them.
+/// Returns the report on files that break rules by how they are read and named, and on the list after them.
 fn files_report(
     alloc: Global,
     files: BrokenFiles,
@@ -64,7 +58,7 @@ fn files_report(
     report_of(alloc, found, names.into_vec(), list)
 }
 
-/// What is found of a program by what was found of its list.
+/// Checks a program, by what was found of its list.
 fn program_checked(
     alloc: Global,
     program: &Program,
@@ -87,7 +81,7 @@ fn program_checked(
     }
 }
 
-/// What is found of what was loaded, by what was found of the list behind its files.
+/// Checks what was loaded, by what was found of the list after its files.
 fn loaded_checked(
     alloc: Global,
     loaded: LoadResult,
@@ -100,7 +94,7 @@ fn loaded_checked(
     match loaded {
         LoadResult::Whole(program) => {
             let found = program_checked(alloc, &program, listed, list);
-            leave(program);
+            keep_until_exit(program);
             found
         }
         LoadResult::Broken(files) => {
@@ -121,20 +115,31 @@ pub fn checked_of(
     ensures { IfOk result (λ checked. (given : LoadInput) (lists : FileMap) → IsAnswer given loaded
         → IfSome (option_copied list.entry) (λ name. IsHeld (lists name) found.now) → IsChecked given lists (option_copied list.entry) checked) }
 {
-    let listed = listed_of(alloc, list, found, number_behind(&loaded))?;
+    let listed = listed_of(alloc, list, found, number_after(&loaded))?;
     loaded_checked(alloc, loaded, &listed, list)
 }
 
-/// Answers the command that compiles: the report, or the tables of the schema.
+/// The tables of a schema.
+#[derive(Drop)]
+struct CompileCommand;
+
+impl BySchema for CompileCommand {
+    ghost Ready = { λ c. Unit {0} };
+
+    ghost Fits = { λ c schema. Unit {0} };
+
+    ghost Says = { λ c schema. SaysTables schema };
+
+    fn by_schema(self, alloc: Global, schema: &Schema) -> Result<CommandAnswer, AllocError> {
+        let text = table_text(alloc, schema)?;
+        Ok(CommandAnswer::of_table(alloc, text))
+    }
+}
+
+/// Answers the command that compiles: the report on the files, or the tables of the schema. Fails only if memory runs out.
 pub fn answer_compile(alloc: Global, checked: CheckResult) -> Result<CommandAnswer, AllocError>
+    requires { IsSoundChecked checked }
     ensures { IfOk result (IsToldOf SaysTables checked) }
 {
-    match checked {
-        CheckResult::Broken(report) => CommandAnswer::of_report(alloc, Status::Broken, &report),
-        CheckResult::Clean(schema) => {
-            let text = table_text(alloc, &schema);
-            leave(schema);
-            Ok(CommandAnswer::of_table(alloc, text?))
-        }
-    }
+    answer_by_schema(alloc, checked, CompileCommand)
 }

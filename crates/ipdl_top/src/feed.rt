@@ -1,50 +1,38 @@
 //! The command that runs one end on a file of bytes.
-ghost use Rattle.std.specs.Prelude.{◌≡◌, ◌≤◌, ◌++◌, ℕ, IfOk, List, Option, codes, map};
+ghost use Rattle.std.specs.Prelude.{◌≡◌, ◌≤◌, ◌++◌, ℕ, IfOk, List, Option, codes, map, string_bytes};
 ghost use Rattle.std.specs.Fmt.{decimal};
+ghost use Rattle.command_words.specs.Command.{feed_course};
 ghost use Rattle.end_parts.specs.PlainLines.{plain_line};
 ghost use Rattle.history.specs.Text.{numbered};
 ghost use Rattle.handler_script.specs.Valid.{IsValid};
 ghost use Rattle.script_runs.specs.Endings.{ending_line};
 ghost use Rattle.ipdl_base.specs.Sound.{IsSound};
+ghost use Rattle.ipdl_base.specs.declared.files.TheConstants.{MOST_BYTES};
 ghost use Rattle.value_codec.specs.Laws.{AreBytes};
 ghost use Rattle.world_core.specs.Worlds.{most_events};
 ghost use Rattle.ipdl_top.specs.Feed as told;
-ghost use Rattle.ipdl_top.specs.Feed.{SaysFed, SaysFedOf, feed_answer, feed_ending, feed_status, kept_text};
-ghost use Rattle.ipdl_top.specs.FeedSteps.{feed_course, feed_says};
+ghost use Rattle.ipdl_top.specs.Feed.{SaysFed, SaysFedOf, SaysFeed, feed_answer, feed_ending, feed_status, kept_text};
 ghost use Rattle.ipdl_top.specs.Steps.{HasTop, IsHeld, IsSmall, IsSoundChecked, IsToldOf};
-ghost use Rattle.ipdl_top.specs.Waits.{IsTop};
 
 use crate::answer::CommandAnswer;
 use crate::checked::CheckResult;
-use crate::compile::leave;
-use crate::frames::unread_answer;
-use crate::run::spent_line;
-use crate::scripts::{ScriptCheck, script_checked};
+use crate::ending::spent_line;
+use crate::input_file::{ByInput, InputFile, answer_by_input};
+use crate::pipeline::{ByScript, WithScript, answer_by_schema};
+use crate::scripts::ScriptFile;
 use crate::status::Status;
-use feed_laws::{feeds_obey_alone, feeds_run_alone};
+use command_words::FeedOptions;
 use frame_list::{FrameListFault, fault_text, frame_rule};
 use handler_script::Script;
 use history::push_numbered;
 use ipdl_base::{FileBytes, Items, Schema, Side};
 use law_statements::{decides_fallen, decides_readable, laws_want_readable_lines};
 use order_statements::one_end_has_effects;
+use relay_laws::{feeds_obey_alone, feeds_run_alone};
 use std::alloc::{AllocError, Global};
-use world_core::{Fed, FeedFault, feed as feed_end};
+use world_core::{FeedFault, FeedResult, feed as feed_end};
 
-/// One end to run on a file of bytes.
-#[derive(Drop)]
-pub struct FeedRequest<'w> {
-    /// The name of the script.
-    pub script: &'w str,
-    /// The name of the file of frames.
-    pub frames: &'w str,
-    /// The side of the end.
-    pub side: Side,
-    /// The most events of the end.
-    pub limit: u32,
-}
-
-/// The line of a fault: the name of the file, the place, and a word with a number.
+/// Returns the line of a fault: the name of the file, the place, and a word with a number.
 fn numbered_line(
     alloc: Global,
     name: &str,
@@ -62,14 +50,14 @@ fn numbered_line(
     Ok(line)
 }
 
-/// The line that says that the frame at a place speaks of an actor which lives with another protocol.
+/// Returns the line that says that the frame at a place names an actor that lives with another protocol.
 fn wrong_actor_line(alloc: Global, name: &str, at: usize, id: i32) -> Result<Vec<u8>, AllocError>
     ensures { IfOk result (λ line. line.items ≡ told.kept_line name.now (FeedFault.WrongActor at id)) }
 {
     numbered_line(alloc, name, at, b": wrong actor ", id)
 }
 
-/// The line that says why the bytes that were left of a file of this name were not read.
+/// Returns the line that says why the rest of a file of this name was not read.
 fn kept_line(alloc: Global, name: &str, fault: FeedFault) -> Result<Vec<u8>, AllocError>
     ensures { IfOk result (λ line. line.items ≡ told.kept_line name.now fault) }
 {
@@ -86,7 +74,7 @@ fn kept_line(alloc: Global, name: &str, fault: FeedFault) -> Result<Vec<u8>, All
     }
 }
 
-/// The line of the fault that is kept of a file of this name, where one is.
+/// Returns the line of the fault that is kept of a file of this name, or nothing.
 fn kept_lines(alloc: Global, name: &str, fault: Option<FeedFault>) -> Result<Vec<u8>, AllocError>
     ensures { IfOk result (λ text. text.items ≡ kept_text name.now fault) }
 {
@@ -96,7 +84,7 @@ fn kept_lines(alloc: Global, name: &str, fault: Option<FeedFault>) -> Result<Vec
     }
 }
 
-/// How the command ends.
+/// Returns how the command ends.
 fn status_of(spent: bool, fault: Option<FeedFault>) -> Status
     ensures { result ≡ feed_status spent fault }
 {
@@ -109,7 +97,7 @@ fn status_of(spent: bool, fault: Option<FeedFault>) -> Status
     }
 }
 
-/// The last line, which says how the feed ended.
+/// Returns the last line, which says how the feed ended.
 fn last_line(side: Side, spent: bool) -> &'static [u8]
     ensures { result.now ≡ ending_line (feed_ending side spent) }
 {
@@ -120,13 +108,13 @@ fn last_line(side: Side, spent: bool) -> &'static [u8]
     }
 }
 
-/// The answer by what the end made of the bytes of a file of this name.
+/// Returns the answer by what the end made of the bytes of a file of this name.
 fn fed_answer(
     alloc: Global,
     schema: &Schema,
     name: &str,
     side: Side,
-    fed: &Fed,
+    fed: &FeedResult,
 ) -> Result<CommandAnswer, AllocError>
     requires { IsSound schema.now }
     ensures { IfOk result (λ answer. answer ≡ feed_answer schema.now name.now side (map plain_line fed.now.history.lines) fed.now.fault fed.now.spent) }
@@ -141,105 +129,104 @@ fn fed_answer(
     })
 }
 
-/// Each byte is below 256.
+/// Shows that each byte is below 256.
 fn are_bytes(bytes: &[u8])
     ensures { AreBytes bytes.now }
 {
     let _length = bytes.len();
 }
 
-/// The answer by the bytes of the file of frames.
-fn bytes_answer(
-    alloc: Global,
-    schema: &Schema,
-    script: &Script,
-    wanted: &FeedRequest<'_>,
-    bytes: &[u8],
-) -> Result<CommandAnswer, AllocError>
-    requires sound { IsSound schema.now }
-    requires valid { IsValid schema.now script.now }
-    requires limit { wanted.now.limit ≤ most_events }
-    ensures { IfOk result (SaysFed (feed_course wanted.now) wanted.now.frames.now bytes.now schema.now script.now) }
-{
-    feeds_obey_alone();
-    feeds_run_alone();
-    one_end_has_effects();
-    decides_readable();
-    decides_fallen();
-    laws_want_readable_lines();
-    are_bytes(bytes);
-    let fed = feed_end(alloc, schema, script, wanted.side, wanted.limit, bytes)?;
-    fed_answer(alloc, schema, wanted.frames, wanted.side, &fed)
+/// The end that runs on the bytes.
+#[derive(Drop)]
+struct FeedOfScript<'w> {
+    schema: &'w Schema,
+    script: &'w Script,
+    options: &'w FeedOptions,
 }
 
-/// The answer by what was found of the file of frames.
-fn frames_answer(
-    alloc: Global,
-    schema: &Schema,
-    script: &Script,
-    wanted: &FeedRequest<'_>,
-    frames: &FileBytes,
-) -> Result<CommandAnswer, AllocError>
-    requires sound { IsSound schema.now }
-    requires valid { IsValid schema.now script.now }
-    requires limit { wanted.now.limit ≤ most_events }
-    ensures { IfOk result (λ answer. (bytes : Option (List ℕ)) → IsHeld bytes frames.now
-        → SaysFedOf (feed_course wanted.now) wanted.now.frames.now bytes schema.now script.now answer) }
-{
-    match frames {
-        FileBytes::Absent => unread_answer(alloc, wanted.frames, ":0: absent\n"),
-        FileBytes::Larger => unread_answer(alloc, wanted.frames, ":0: larger\n"),
-        FileBytes::Bytes(bytes) => bytes_answer(alloc, schema, script, wanted, bytes.as_slice()),
+impl<'w> ByInput for FeedOfScript<'w> {
+    ghost Ready = { λ c. IsSound c.schema.now × IsValid c.schema.now c.script.now × (c.options.now.limit ≤ most_events) };
+
+    ghost most = { λ c. MOST_BYTES };
+
+    ghost Says = { λ c bytes. SaysFed (feed_course c.options.now) (string_bytes c.options.now.frames) bytes c.schema.now c.script.now };
+
+    fn by_input(self, alloc: Global, bytes: &[u8]) -> Result<CommandAnswer, AllocError> {
+        feeds_obey_alone();
+        feeds_run_alone();
+        one_end_has_effects();
+        decides_readable();
+        decides_fallen();
+        laws_want_readable_lines();
+        are_bytes(bytes);
+        let FeedOfScript {
+            schema,
+            script,
+            options,
+        } = self;
+        let fed = feed_end(alloc, schema, script, options.side, options.limit, bytes)?;
+        fed_answer(alloc, schema, options.frames.as_str(), options.side, &fed)
     }
 }
 
-/// The answer by what was found of the script and of the file of frames, under the schema of a file's program.
-fn held_answer(
-    alloc: Global,
-    schema: &Schema,
-    file: &str,
-    wanted: &FeedRequest<'_>,
-    text: &FileBytes,
-    frames: &FileBytes,
-) -> Result<CommandAnswer, AllocError>
-    requires small { IsSmall text.now }
-    requires sound { IsSound schema.now }
-    requires top { (top : ℕ) × IsTop file.now schema.now top }
-    requires limit { wanted.now.limit ≤ most_events }
-    ensures { IfOk result (λ answer. (script bytes : Option (List ℕ)) → IsHeld script text.now → IsHeld bytes frames.now
-        → feed_says wanted.now script bytes file.now schema.now answer) }
-{
-    match script_checked(alloc, schema, file, wanted.script, text)? {
-        ScriptCheck::Broken(report) => {
-            CommandAnswer::of_report(alloc, Status::BadScript, &report)
-        }
-        ScriptCheck::Valid(script) => { frames_answer(alloc, schema, &script, wanted, frames) }
+/// One end to run on a file of bytes.
+#[derive(Drop)]
+struct FeedCommand<'w> {
+    options: &'w FeedOptions,
+    frames: &'w FileBytes,
+}
+
+impl<'w> ByScript for FeedCommand<'w> {
+    ghost Ready = { λ c. (c.options.now.limit ≤ most_events) × IsSmall c.frames.now };
+
+    ghost Says = { λ c schema script answer. (bytes : Option (List ℕ)) → IsHeld bytes c.frames.now
+        → SaysFedOf (feed_course c.options.now) (string_bytes c.options.now.frames) bytes schema script answer };
+
+    fn by_script(
+        self,
+        alloc: Global,
+        schema: &Schema,
+        script: &Script,
+    ) -> Result<CommandAnswer, AllocError> {
+        let FeedCommand { options, frames } = self;
+        let input = InputFile {
+            name: options.frames.as_str(),
+            found: frames,
+            fault: Status::BadFrames,
+        };
+        let command = FeedOfScript {
+            schema,
+            script,
+            options,
+        };
+        answer_by_input(alloc, &input, command)
     }
 }
 
 /// Answers the command that runs one end on a file of bytes: the report on the files, or the rules that the script breaks, or
-/// that there is no file of frames to read, or the lines of the end, how they ended, and the fault that is kept.
+/// that there is no file of frames to read, or the lines of the end, how they ended, and the fault that is kept. Fails only if
+/// memory runs out.
 pub fn answer_feed(
     alloc: Global,
     checked: CheckResult,
     file: &str,
-    wanted: &FeedRequest<'_>,
+    options: &FeedOptions,
     text: &FileBytes,
     frames: &FileBytes,
 ) -> Result<CommandAnswer, AllocError>
     requires small { IsSmall text.now }
+    requires frames { IsSmall frames.now }
     requires sound { IsSoundChecked checked }
     requires top { HasTop file.now checked }
-    requires limit { wanted.now.limit ≤ most_events }
+    requires limit { options.now.limit ≤ most_events }
     ensures { IfOk result (λ answer. (script bytes : Option (List ℕ)) → IsHeld script text.now → IsHeld bytes frames.now
-        → IsToldOf (feed_says wanted.now script bytes file.now) checked answer) }
+        → IsToldOf (SaysFeed (feed_course options.now) (string_bytes options.now.script) script (string_bytes options.now.frames) bytes file.now) checked answer) }
 {
-    match checked {
-        CheckResult::Broken(report) => CommandAnswer::of_report(alloc, Status::Broken, &report),
-        CheckResult::Clean(schema) => {
-            let answer = held_answer(alloc, &schema, file, wanted, text, frames);
-            leave(schema);
-            answer
-        }
-    }
+    let script = ScriptFile {
+        file,
+        name: options.script.as_str(),
+        found: text,
+    };
+    let command = FeedCommand { options, frames };
+    answer_by_schema(alloc, checked, WithScript { script, command })
 }

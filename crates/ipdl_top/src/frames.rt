@@ -1,28 +1,23 @@
 //! The command that prints the frames of a file.
-ghost use Rattle.std.specs.Prelude.{◌≡◌, ◌++◌, [], IfOk, Option, List, ℕ};
+ghost use Rattle.std.specs.Prelude.{◌≡◌, IfOk, Option, List, ℕ, string_bytes};
 ghost use Rattle.ipdl_base.specs.Sound.{IsSound};
+ghost use Rattle.ipdl_base.specs.declared.files.TheConstants.{MOST_BYTES};
 ghost use Rattle.frame_list.specs.FramesTold.{Tells};
-ghost use Rattle.ipdl_top.specs.Frames.{SaysBytes, bad_frames_answer, frames_answer, frames_out};
-ghost use Rattle.ipdl_top.specs.Steps.{IsHeld, IsSoundChecked, IsToldOf, frames_says};
+ghost use Rattle.ipdl_top.specs.Frames.{SaysBytes, SaysFrames, frames_answer, frames_out};
+ghost use Rattle.ipdl_top.specs.Steps.{IsHeld, IsSmall, IsSoundChecked, IsToldOf};
 
 use crate::answer::CommandAnswer;
 use crate::checked::CheckResult;
+use crate::input_file::{ByInput, InputFile, answer_by_input};
+use crate::pipeline::{BySchema, answer_by_schema};
 use crate::status::Status;
+use command_words::FramesOptions;
 use frame_list::{FrameListFault, fault_text, push_lines, push_new_frames};
 use ipdl_base::{FileBytes, Schema};
 use std::alloc::{AllocError, Global};
 
-/// The file to print frames of, and how.
-#[derive(Drop)]
-pub struct FramesRequest<'w> {
-    /// The name of the file of frames.
-    pub name: &'w str,
-    /// Whether the frames are written anew.
-    pub convert: bool,
-}
-
-/// Appends the text for the frames of a file of these bytes, their lines or the same messages in new
-/// frames, and says where it holds no further ones.
+/// Appends the text of the frames of a file of these bytes: their lines, or the same messages in new frames. Returns the fault
+/// after the last frame, or `None`. Fails only if memory runs out.
 fn push_text(
     out: &mut Vec<u8>,
     alloc: Global,
@@ -40,7 +35,7 @@ fn push_text(
     }
 }
 
-/// The answer for a file by the text for its frames and its fault, where it has one.
+/// Returns the answer by the text of the frames of a file and its fault, if it has one.
 fn answer_of(
     alloc: Global,
     name: &str,
@@ -52,66 +47,92 @@ fn answer_of(
     match fault {
         Some(fault) => {
             let line = fault_text(alloc, name.as_bytes(), &fault)?;
-            Ok(CommandAnswer::of_bad_frames(out, line))
+            Ok(CommandAnswer::of_bad_input(Status::BadFrames, out, line))
         }
         None => Ok(CommandAnswer::of_table(alloc, out)),
     }
 }
 
-/// The answer for a file of these bytes.
+/// Returns the answer by the bytes of a file of frames of this name.
 fn bytes_answer(
     alloc: Global,
     schema: &Schema,
-    wanted: &FramesRequest<'_>,
+    name: &str,
+    convert: bool,
     bytes: &[u8],
 ) -> Result<CommandAnswer, AllocError>
     requires { IsSound schema.now }
-    ensures { IfOk result (SaysBytes wanted.now.name.now wanted.now.convert bytes.now schema.now) }
+    ensures { IfOk result (SaysBytes name.now convert bytes.now schema.now) }
 {
     let mut out = Vec::new(alloc);
-    let fault = push_text(&mut out, alloc, schema, wanted.convert, bytes)?;
-    answer_of(alloc, wanted.name, out, fault)
+    let fault = push_text(&mut out, alloc, schema, convert, bytes)?;
+    answer_of(alloc, name, out, fault)
 }
 
-/// The answer that there is no file of frames to read, with this word for it.
-pub fn unread_answer(alloc: Global, name: &str, word: &str) -> Result<CommandAnswer, AllocError>
-    ensures { IfOk result (λ answer. answer ≡ bad_frames_answer [] (name.now ++ word.now)) }
-{
-    let mut line = Vec::from_slice(alloc, name.as_bytes())?;
-    line.extend_from_slice(word.as_bytes())?;
-    Ok(CommandAnswer::of_bad_frames(Vec::new(alloc), line))
+/// The frames of the bytes, under a schema.
+#[derive(Drop)]
+struct FramesOfSchema<'w> {
+    schema: &'w Schema,
+    options: &'w FramesOptions,
 }
 
-/// The answer for a file of frames by what was found of it.
-fn held_answer(
-    alloc: Global,
-    schema: &Schema,
-    wanted: &FramesRequest<'_>,
-    held: &FileBytes,
-) -> Result<CommandAnswer, AllocError>
-    requires { IsSound schema.now }
-    ensures { IfOk result (λ answer. (file : Option (List ℕ)) → IsHeld file held.now → frames_says wanted.now file schema.now answer) }
-{
-    match held {
-        FileBytes::Absent => unread_answer(alloc, wanted.name, ":0: absent\n"),
-        FileBytes::Larger => unread_answer(alloc, wanted.name, ":0: larger\n"),
-        FileBytes::Bytes(bytes) => bytes_answer(alloc, schema, wanted, bytes.as_slice()),
+impl<'w> ByInput for FramesOfSchema<'w> {
+    ghost Ready = { λ c. IsSound c.schema.now };
+
+    ghost most = { λ c. MOST_BYTES };
+
+    ghost Says = { λ c bytes. SaysBytes (string_bytes c.options.now.frames) c.options.now.convert bytes c.schema.now };
+
+    fn by_input(self, alloc: Global, bytes: &[u8]) -> Result<CommandAnswer, AllocError> {
+        let FramesOfSchema { schema, options } = self;
+        bytes_answer(
+            alloc,
+            schema,
+            options.frames.as_str(),
+            options.convert,
+            bytes,
+        )
     }
 }
 
-/// Answers the command that prints the frames of a file: the report on the files, or the lines of the frames, or the same
-/// messages in new frames.
+/// The frames of a file.
+#[derive(Drop)]
+struct FramesCommand<'w> {
+    options: &'w FramesOptions,
+    frames: &'w FileBytes,
+}
+
+impl<'w> BySchema for FramesCommand<'w> {
+    ghost Ready = { λ c. IsSmall c.frames.now };
+
+    ghost Fits = { λ c schema. Unit {0} };
+
+    ghost Says = { λ c schema answer. (bytes : Option (List ℕ)) → IsHeld bytes c.frames.now
+        → SaysFrames (string_bytes c.options.now.frames) c.options.now.convert bytes schema answer };
+
+    fn by_schema(self, alloc: Global, schema: &Schema) -> Result<CommandAnswer, AllocError> {
+        let FramesCommand { options, frames } = self;
+        let input = InputFile {
+            name: options.frames.as_str(),
+            found: frames,
+            fault: Status::BadFrames,
+        };
+        answer_by_input(alloc, &input, FramesOfSchema { schema, options })
+    }
+}
+
+/// Answers the command that prints the frames of a file: the report on the files, or that there is no file of frames to read, or
+/// the lines of the frames, or the same messages in new frames. Fails only if memory runs out.
 pub fn answer_frames(
     alloc: Global,
     checked: CheckResult,
-    wanted: &FramesRequest<'_>,
-    held: &FileBytes,
+    options: &FramesOptions,
+    frames: &FileBytes,
 ) -> Result<CommandAnswer, AllocError>
-    requires { IsSoundChecked checked }
-    ensures { IfOk result (λ answer. (file : Option (List ℕ)) → IsHeld file held.now → IsToldOf (frames_says wanted.now file) checked answer) }
+    requires small { IsSmall frames.now }
+    requires sound { IsSoundChecked checked }
+    ensures { IfOk result (λ answer. (bytes : Option (List ℕ)) → IsHeld bytes frames.now
+        → IsToldOf (SaysFrames (string_bytes options.now.frames) options.now.convert bytes) checked answer) }
 {
-    match checked {
-        CheckResult::Broken(report) => CommandAnswer::of_report(alloc, Status::Broken, &report),
-        CheckResult::Clean(schema) => held_answer(alloc, &schema, wanted, held),
-    }
+    answer_by_schema(alloc, checked, FramesCommand { options, frames })
 }

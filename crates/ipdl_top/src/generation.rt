@@ -3,19 +3,20 @@ ghost use Rattle.std.specs.Prelude.{◌≡◌, ◌≤◌, ◌∷◌, [], IfOk, I
 ghost use Rattle.ipdl_top.specs.FileViews.{steady};
 ghost use Rattle.ipdl_top.specs.Gen.{case_course, case_files, case_path, files_of, holder_name, script_name};
 ghost use Rattle.ipdl_top.specs.RunSteps.{course_of};
-ghost use Rattle.ipdl_top.specs.Sources.{AreNamedFound, AreCaseNumbers, case_named, named_view, program_named};
+ghost use Rattle.ipdl_top.specs.CommandFiles.{case_named, program_named};
+ghost use Rattle.ipdl_top.specs.FilesFound.{AreCaseNumbers, AreNamedFound, named_view};
 
+use crate::command_files::NamedFiles;
 use crate::reading::{FoundFiles, read_named};
 use crate::rendering::Rendering;
 use crate::run::RunRequest;
-use crate::sources::NamedFiles;
 use file_log::RecordedFiles;
 use generated_case::{GeneratedCase, generate};
 use ipdl_base::{Failure, FileBytes, Files, MOST_BYTES};
 use std::alloc::{AllocError, Global};
 
 /// The name of the file of the top protocol.
-pub const HOLDER: &str = "PGen.ipdl";
+const HOLDER: &str = "PGen.ipdl";
 
 /// The name of the file of the protocol of the actors.
 const LEAF: &str = "PLeaf.ipdl";
@@ -32,8 +33,8 @@ struct CaseFiles {
     case: GeneratedCase,
 }
 
-/// The text of the file of this name.
-fn text_of<'c>(case: &'c GeneratedCase, name: &str) -> Option<&'c str>
+/// Returns the text of the file of this name, or `None`.
+fn text_of_file<'c>(case: &'c GeneratedCase, name: &str) -> Option<&'c str>
     ensures { option_map (λ text. text.now) result ≡ files_of case.entry.now name.now }
 {
     if name == HOLDER {
@@ -51,19 +52,19 @@ impl Files for CaseFiles {
     ghost use Rattle.ipdl_base.specs.Outside.{FileMap, HasAtMost, IsHeldWithin, Rose};
     ghost use Rattle.ipdl_top.specs.Gen.{files_of};
 
-    ghost told = { λ files. Some (files_of files.case) };
+    ghost known = { λ files. Some (files_of files.case) };
 
     ghost faults = { λ files. 0 };
 
     fn read(&mut self, alloc: Global, name: &str, limit: usize) -> Result<FileBytes, Failure> {
-        match text_of(&self.case, name) {
+        match text_of_file(&self.case, name) {
             None => Ok(FileBytes::Absent),
             Some(text) => Ok(FileBytes::of_bytes(alloc, text.as_bytes(), limit)?),
         }
     }
 }
 
-/// The files of a generated case.
+/// Makes the files of a generated case. Fails only if memory runs out.
 fn case_of(alloc: Global, rounds: u32, actors: u32) -> Result<CaseFiles, AllocError>
     requires some_rounds { 1 ≤ rounds }
     requires rounds { rounds ≤ 1000 }
@@ -82,7 +83,7 @@ struct CaseNames {
     path: Vec<String>,
 }
 
-/// Returns a list of this name alone.
+/// Returns a list of this name alone. Fails only if memory runs out.
 fn list_of_one(alloc: Global, name: &str) -> Result<Vec<String>, AllocError>
     ensures { IfOk result (λ names. map string_bytes names.items ≡ name.now ∷ []) }
 {
@@ -92,7 +93,7 @@ fn list_of_one(alloc: Global, name: &str) -> Result<Vec<String>, AllocError>
     Ok(names)
 }
 
-/// Returns the names of a generated case.
+/// Returns the names of a generated case. Fails only if memory runs out.
 fn case_names(alloc: Global) -> Result<CaseNames, AllocError>
     ensures program { IfOk result (λ names. map string_bytes names.program.items ≡ holder_name ∷ []) }
     ensures path { IfOk result (λ names. map string_bytes names.path.items ≡ case_path) }
@@ -116,11 +117,11 @@ fn named_of(names: &CaseNames) -> NamedFiles<'_>
     }
 }
 
-/// Reads the files of a generated case, of so many rounds over so many actors (docs/gen.md).
+/// Reads the files of a generated case, by its numbers of rounds and actors (docs/gen.md).
 ///
 /// # Errors
 ///
-/// `Failure::NoMemory` where memory ran out.
+/// `Failure::NoMemory` if memory runs out.
 pub fn read_case(alloc: Global, rounds: u32, actors: u32) -> Result<FoundFiles, Failure>
     requires { AreCaseNumbers rounds actors }
     ensures found { IfOk result (AreNamedFound case_named (steady (case_files rounds actors))) }
@@ -132,13 +133,16 @@ pub fn read_case(alloc: Global, rounds: u32, actors: u32) -> Result<FoundFiles, 
     read_named(alloc, &mut files, &named_of(&names))
 }
 
-/// Returns how a generated case is run: by an empty word of turns, and its history is summed up.
+/// Returns how a generated case is run: by an empty word of turns, and a summary of its history is printed.
 pub fn case_request(rounds: u32, actors: u32) -> RunRequest<'static>
     ensures course { course_of result ≡ case_course }
     ensures script { result.script.now ≡ script_name }
+    ensures file { result.file.now ≡ holder_name }
+    ensures limit { result.limit ≡ 20000 }
     ensures rendering { result.rendering ≡ Rendering.Summary rounds actors }
 {
     RunRequest {
+        file: HOLDER,
         script: SCRIPT,
         schedule: Some(&[]),
         limit: LIMIT,

@@ -17,10 +17,9 @@ use sync_list::one_list;
 use value_types::boxes_say_nothing;
 use world_core::{Driver, Relay};
 
-/// The law of the answer: for the same files, words have at most one, but for those that run a script
-/// without a word of turns; and where a script runs over two queues and neither side is spent, there is
-/// no other answer. So the files and the words determine an answer's status, its text for `out` and its
-/// text for `err`.
+/// The law of the answer: with the same files, words have at most one answer, except those that run a script without a word of
+/// turns. If a script runs over two queues and neither side is spent, there is no other answer. So the files and the words
+/// determine the status of an answer, its text for `out` and its text for `err`.
 pub fn answer_is_determined<D: Driver, Q: Relay>(driver: &D, relay: &Q)
     ensures { OneAnswer (D.Gives driver.now) (Q.Gives relay.now) }
 {

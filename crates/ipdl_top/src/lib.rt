@@ -2,16 +2,20 @@
 #![tactic(auto)]
 
 mod answer;
-mod audited;
-mod auditing;
+mod audit;
 mod checked;
+mod command_files;
 mod commands;
 mod compile;
+mod ending;
+mod exit;
 mod feed;
 mod frames;
 mod generation;
+mod input_file;
 mod laws;
 mod list;
+mod pipeline;
 mod program;
 mod reading;
 mod relay;
@@ -20,14 +24,11 @@ mod report;
 mod rules;
 mod run;
 mod scripts;
-mod sources;
 mod status;
-mod transcript_audit;
 mod waits;
 mod write;
 
-pub use audited::Audit;
-pub use auditing::audit;
+pub use audit::{Audit, audit_text};
 pub use laws::answer_is_determined;
 pub use program::ipdl;
 pub use status::Status;

@@ -9,16 +9,16 @@ use ipdl_base::{FileBytes, Finding, Place, Rule};
 use std::alloc::{AllocError, Global};
 use sync_list::{ListFault, SyncList, read_list};
 
-/// What a sync list that a command may name was found to be.
+/// What was found of the sync list of a command, if it names one.
 #[derive(Drop)]
 pub enum SyncListFile {
-    /// Its sections; none where no list is named.
+    /// The sections of the list, or `None` if no list is named.
     Sections(Option<SyncList>),
-    /// It breaks a rule on files.
+    /// The list breaks a rule on files.
     Broken(Finding),
 }
 
-/// The list breaks a rule at this line and column of the file of this number.
+/// Returns that the list breaks a rule at this line and column of the file of this number.
 fn broken_at(rule: Rule, file: u32, line: u32, column: u32) -> SyncListFile
     ensures { result ≡ SyncListFile.Broken (record { place = record { file = file; line = line; column = column }; rule = rule }) }
 {
@@ -26,7 +26,7 @@ fn broken_at(rule: Rule, file: u32, line: u32, column: u32) -> SyncListFile
     SyncListFile::Broken(Finding { place, rule })
 }
 
-/// What a list of these bytes is, as the file of this number.
+/// Reads a list of these bytes, as the file of this number. Fails only if memory runs out.
 fn listed_of_bytes(alloc: Global, bytes: &[u8], number: u32) -> Result<SyncListFile, AllocError>
     requires { length bytes.now ≤ MOST_BYTES }
     ensures { IfOk result (IsFound (Some bytes.now) number) }
@@ -38,7 +38,7 @@ fn listed_of_bytes(alloc: Global, bytes: &[u8], number: u32) -> Result<SyncListF
     }
 }
 
-/// What a list is, of which this was found, as the file of this number.
+/// Classifies the sync list by what reading it gave, as the file of this number. Fails only if memory runs out.
 fn listed_of_found(
     alloc: Global,
     found: &FileBytes,
@@ -54,7 +54,8 @@ fn listed_of_found(
     }
 }
 
-/// Returns what the sync list is, if one is named, by what was found of it, as the file of this number.
+/// Classifies the sync list of a command, if it names one, by what reading it gave, as the file of this number. Fails only if
+/// memory runs out.
 pub fn listed_of(
     alloc: Global,
     list: Option<&str>,

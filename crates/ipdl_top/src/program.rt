@@ -8,14 +8,15 @@ ghost use Rattle.ipdl_base.specs.Outside.{Rose};
 ghost use Rattle.ipdl_top.specs.CommandAnswer.{AnswersTo, IsAnswer, usage_answer};
 ghost use Rattle.ipdl_top.specs.FileViews.{ForMap, ForViews};
 ghost use Rattle.ipdl_top.specs.Outcome.{IsOutcome, IsOutcomeOfReads, IsStatusOfReads};
-ghost use Rattle.ipdl_top.specs.Sources.{AreFound, AreReadable, generated, sources_view};
+ghost use Rattle.ipdl_top.specs.CommandFiles.{generated};
+ghost use Rattle.ipdl_top.specs.FilesFound.{AreFound, AreReadable, files_read};
 ghost use Rattle.ipdl_top.specs.Written.{WritesAll};
 
 use crate::answer::CommandAnswer;
+use crate::command_files::{CommandFiles, files_of_command};
 use crate::commands::answer_command;
 use crate::generation::read_case;
 use crate::reading::{FoundFiles, read_named};
-use crate::sources::{Sources, sources_of};
 use crate::status::Status;
 use crate::write::write_answer;
 use command_words::{Command, WordsFault, one_command, read_words};
@@ -24,30 +25,30 @@ use ipdl_base::{Failure, Files, Sink};
 use std::alloc::Global;
 use world_core::{Driver, Relay};
 
-/// Reads what a command needs. A generated case has its own files, and none of `files` is read.
+/// Reads the files of a command. A generated case has its own files, and `files` is not read.
 ///
 /// # Errors
 ///
-/// `Failure::ReadFault` where a read failed, after which nothing more is read, and `Failure::NoMemory` where memory ran out.
-fn read_sources<F: Files>(
+/// `Failure::ReadFault` if a read fails, after which nothing more is read, and `Failure::NoMemory` if memory runs out.
+fn read_files<F: Files>(
     alloc: Global,
     files: &mut RecordedFiles<F>,
-    sources: &Sources<'_>,
+    named: &CommandFiles<'_>,
 ) -> Result<FoundFiles, Failure>
-    requires { AreReadable (sources_view sources.now) }
-    ensures reads { IfOk result (λ found. ForViews (F.told (files_of files.old)) (reads_of files.old) (reads_of files.new)
-        (λ seen. AreFound (sources_view sources.now) seen found)) }
+    requires { AreReadable (files_read named.now) }
+    ensures reads { IfOk result (λ found. ForViews (F.known (files_of files.old)) (reads_of files.old) (reads_of files.new)
+        (λ seen. AreFound (files_read named.now) seen found)) }
     ensures ended { EndsWithReads result (reads_of files.old) (reads_of files.new) }
     ensures read_fault { result ≡ Err Failure.ReadFault → Rose (F.faults (files_of files.old)) (F.faults (files_of files.new)) }
-    ensures unread { (rounds actors : ℕ) → sources_view sources.now ≡ generated rounds actors → files.new ≡ files.old }
+    ensures unread { (rounds actors : ℕ) → files_read named.now ≡ generated rounds actors → files.new ≡ files.old }
 {
-    match sources {
-        Sources::Named(named) => read_named(alloc, files, named),
-        Sources::Case(rounds, actors) => read_case(alloc, *rounds, *actors),
+    match named {
+        CommandFiles::Named(names) => read_named(alloc, files, names),
+        CommandFiles::Case(rounds, actors) => read_case(alloc, *rounds, *actors),
     }
 }
 
-/// Reads what a command needs, and answers it.
+/// Reads the files of a command, and answers it.
 fn answer_by_files<F: Files, D: Driver, Q: Relay>(
     alloc: Global,
     command: &Command,
@@ -58,17 +59,17 @@ fn answer_by_files<F: Files, D: Driver, Q: Relay>(
     requires said { (words : List (List ℕ)) × CommandOf words command.now }
     requires ready { D.ready driver.old }
     requires relay_ready { Q.ready relay.old }
-    ensures reads { IfOk result (λ answer. ForViews (F.told (files_of files.old)) (reads_of files.old) (reads_of files.new)
+    ensures reads { IfOk result (λ answer. ForViews (F.known (files_of files.old)) (reads_of files.old) (reads_of files.new)
         (λ seen. AnswersTo (D.Gives driver.old) (Q.Gives relay.old) seen (view_of command.now) answer)) }
     ensures ended { EndsWithReads result (reads_of files.old) (reads_of files.new) }
     ensures read_fault { result ≡ Err Failure.ReadFault → Rose (F.faults (files_of files.old)) (F.faults (files_of files.new)) }
     ensures unread { (rounds actors : ℕ) → view_of command.now ≡ gen rounds actors → files.new ≡ files.old }
 {
-    let found = read_sources(alloc, files, &sources_of(command))?;
+    let found = read_files(alloc, files, &files_of_command(command))?;
     Ok(answer_command(alloc, command, found, driver, relay)?)
 }
 
-/// Answers the words of a call: they are read as a command, and the command is answered; words that are none have an answer too.
+/// Answers the words of a call: reads them as a command, and answers the command. Words that are not a command have an answer too.
 fn answer_to<F: Files, D: Driver, Q: Relay>(
     alloc: Global,
     words: &[String],
@@ -78,7 +79,7 @@ fn answer_to<F: Files, D: Driver, Q: Relay>(
 ) -> Result<CommandAnswer, Failure>
     requires ready { D.ready driver.old }
     requires relay_ready { Q.ready relay.old }
-    ensures reads { IfOk result (λ answer. ForViews (F.told (files_of files.old)) (reads_of files.old) (reads_of files.new)
+    ensures reads { IfOk result (λ answer. ForViews (F.known (files_of files.old)) (reads_of files.old) (reads_of files.new)
         (λ seen. IsAnswer (D.Gives driver.old) (Q.Gives relay.old) seen (map string_bytes words.now) answer)) }
     ensures ended { EndsWithReads result (reads_of files.old) (reads_of files.new) }
     ensures no_command { IsNoCommand (map string_bytes words.now) → result ≢ Err Failure.ReadFault }
@@ -94,7 +95,8 @@ fn answer_to<F: Files, D: Driver, Q: Relay>(
     }
 }
 
-/// Runs the program on its words, which do not hold its own name (docs/theorems.md, "The program").
+/// Runs the program on its words, which do not contain its own name (docs/theorems.md, "The program"). Returns how the program
+/// ends.
 pub fn ipdl<F: Files, O: Sink, E: Sink, D: Driver, Q: Relay>(
     alloc: Global,
     words: &[String],
@@ -107,7 +109,7 @@ pub fn ipdl<F: Files, O: Sink, E: Sink, D: Driver, Q: Relay>(
     requires ready { D.ready driver.old }
     requires relay_ready { Q.ready relay.old }
 
-    // Usage comes exactly where the words are no command, unless a write fails or memory runs out.
+    // The status is Usage exactly if the words are not a command, unless a write fails or memory runs out.
     ensures usage { result ≡ Status.Usage → IsNoCommand (map string_bytes words.now) }
     ensures no_command { IsNoCommand (map string_bytes words.now) →
         (result ≡ Status.Usage) ⊎ ((result ≡ Status.WriteFault) ⊎ (result ≡ Status.NoMemory)) }
@@ -115,26 +117,26 @@ pub fn ipdl<F: Files, O: Sink, E: Sink, D: Driver, Q: Relay>(
         (record { old = O.written out.old; new = O.written out.new })
         (record { old = E.written err.old; new = E.written err.new }) }
 
-    // The status is that of an answer, of which all was written; or a write failed, and a front of one was.
-    ensures answer { ForMap (F.told (files_of files.old)) (λ map'. IsOutcome (IsAnswer (D.Gives driver.old) (Q.Gives relay.old) map' (map string_bytes words.now)) result
+    // The status is that of an answer, and all of the answer was written; or a write failed, and a prefix of one was written.
+    ensures answer { ForMap (F.known (files_of files.old)) (λ map'. IsOutcome (IsAnswer (D.Gives driver.old) (Q.Gives relay.old) map' (map string_bytes words.now)) result
         (record { old = O.written out.old; new = O.written out.new })
         (record { old = E.written err.old; new = E.written err.new })) }
 
-    // So it is by what the reads of this call gave, for all views of the files that agree with them.
-    ensures reads { IsOutcomeOfReads (F.told (files_of files.old)) (reads_of files.old) (reads_of files.new)
+    // The same holds by what the reads of this call gave, for all views of the files that agree with them.
+    ensures reads { IsOutcomeOfReads (F.known (files_of files.old)) (reads_of files.old) (reads_of files.new)
         (λ seen. IsAnswer (D.Gives driver.old) (Q.Gives relay.old) seen (map string_bytes words.now)) result
         (record { old = O.written out.old; new = O.written out.new })
         (record { old = E.written err.old; new = E.written err.new }) }
 
-    // The first read that fails ends the call, and comes before any report.
+    // The first read that fails ends the call, before any report.
     ensures ended { IsStatusOfReads result (reads_of files.old) (reads_of files.new) }
 
-    // What only failures give, whatever the files tell.
+    // What only failures give, whatever the files contain.
     ensures read_fault { result ≡ Status.ReadFault → Rose (F.faults (files_of files.old)) (F.faults (files_of files.new)) }
     ensures write_fault { result ≡ Status.WriteFault → Rose (O.faults out.old) (O.faults out.new) ⊎ Rose (E.faults err.old) (E.faults err.new) }
     ensures nothing { (result ≡ Status.ReadFault) ⊎ (result ≡ Status.NoMemory) → (out.new ≡ out.old) × (err.new ≡ err.old) }
 
-    // A generated case reads no file, and neither do words that are no command.
+    // A generated case reads no file, and neither do words that are not a command.
     ensures unread { (rounds actors : ℕ) → IsGen (map string_bytes words.now) rounds actors → files.new ≡ files.old }
     ensures untouched { IsNoCommand (map string_bytes words.now) → files.new ≡ files.old }
 {

@@ -6,11 +6,11 @@ ghost use Rattle.file_log.specs.Recorded.{files_of, reads_of};
 ghost use Rattle.include_graph.specs.Keys.{AreFileWords};
 ghost use Rattle.ipdl_base.specs.Outside.{HasAtMost, IsHeldWithin, Rose};
 ghost use Rattle.ipdl_top.specs.FileViews.{ForViews};
-ghost use Rattle.ipdl_top.specs.Sources.{AreNamedFound, named_view};
+ghost use Rattle.ipdl_top.specs.FilesFound.{AreNamedFound, named_view};
 
 use crate::checked::CheckResult;
+use crate::command_files::NamedFiles;
 use crate::compile::checked_of;
-use crate::sources::NamedFiles;
 use file_log::RecordedFiles;
 use include_graph::load;
 use ipdl_base::{Failure, FileBytes, Files, MOST_BYTES};
@@ -21,29 +21,29 @@ use std::alloc::Global;
 pub struct FoundFiles {
     /// What was found of the program and its sync list.
     pub checked: CheckResult,
-    /// The script; `FileBytes::Absent` where the command names none.
+    /// The script, or `FileBytes::Absent` if the command names no script.
     pub script: FileBytes,
-    /// The input; `FileBytes::Absent` where the command names none.
+    /// The input, or `FileBytes::Absent` if the command names no input.
     pub input: FileBytes,
 }
 
-/// Reads the file of this name, of which at most `limit` bytes are given. Without a name nothing is read, and the result is
+/// Reads the file of this name, if it has at most `limit` bytes. Without a name nothing is read, and the result is
 /// `FileBytes::Absent`.
 ///
 /// # Errors
 ///
-/// `Failure::ReadFault` where the read failed, and `Failure::NoMemory` where memory ran out.
+/// `Failure::ReadFault` if the read fails, and `Failure::NoMemory` if memory runs out.
 fn read_if_named<F: Files>(
     alloc: Global,
     files: &mut RecordedFiles<F>,
     name: Option<&str>,
     limit: usize,
 ) -> Result<FileBytes, Failure>
-    ensures reads { IfOk result (λ found. ForReads (F.told (files_of files.old)) (reads_of files.old) (reads_of files.new)
+    ensures reads { IfOk result (λ found. ForReads (F.known (files_of files.old)) (reads_of files.old) (reads_of files.new)
         (λ map'. IfSome (option_copied name.entry) (λ word. IsHeldWithin limit (map' word) found))) }
     ensures small { IfOk result (HasAtMost limit) }
     ensures ended { EndsWithReads result (reads_of files.old) (reads_of files.new) }
-    ensures told { F.told (files_of files.new) ≡ F.told (files_of files.old) }
+    ensures told { F.known (files_of files.new) ≡ F.known (files_of files.old) }
     ensures count { F.faults (files_of files.old) ≤ F.faults (files_of files.new) }
     ensures read_fault { result ≡ Err Failure.ReadFault → Rose (F.faults (files_of files.old)) (F.faults (files_of files.new)) }
 {
@@ -53,19 +53,19 @@ fn read_if_named<F: Files>(
     }
 }
 
-/// Reads the files of these names: the program and what it includes, then the sync list, the script and the input, as far as
-/// they are named. All are read, whatever rules the ones before break.
+/// Reads the files of these names: the program and what it includes, then the sync list, the script and the input, if they are
+/// named. All of them are read, whatever rules the files before them break.
 ///
 /// # Errors
 ///
-/// `Failure::ReadFault` where a read failed, after which nothing more is read, and `Failure::NoMemory` where memory ran out.
+/// `Failure::ReadFault` if a read fails, after which nothing more is read, and `Failure::NoMemory` if memory runs out.
 pub fn read_named<F: Files>(
     alloc: Global,
     files: &mut RecordedFiles<F>,
     named: &NamedFiles<'_>,
 ) -> Result<FoundFiles, Failure>
     requires { AreFileWords (map string_bytes named.now.program.now) }
-    ensures reads { IfOk result (λ found. ForViews (F.told (files_of files.old)) (reads_of files.old) (reads_of files.new)
+    ensures reads { IfOk result (λ found. ForViews (F.known (files_of files.old)) (reads_of files.old) (reads_of files.new)
         (λ seen. AreNamedFound (named_view named.now) seen found)) }
     ensures ended { EndsWithReads result (reads_of files.old) (reads_of files.new) }
     ensures read_fault { result ≡ Err Failure.ReadFault → Rose (F.faults (files_of files.old)) (F.faults (files_of files.new)) }

@@ -1,4 +1,6 @@
-/// What is printed of a history.
+//! How a history is printed.
+
+/// The text that is printed of a history.
 #[derive(Clone, Copy, Debug, PartialEq, Eq)]
 pub enum Rendering {
     /// Its transcript.

@@ -1,10 +1,11 @@
+//! The text of a report.
 ghost use Rattle.std.specs.Prelude.{◌≡◌, ◌++◌, [], IfOk, OnOk, slice_get, unwrap_or};
 ghost use Rattle.ipdl_top.specs.Report.{finding_line, report_text};
 
 use ipdl_base::{Finding, Name, Report};
 use std::alloc::{AllocError, Global};
 
-/// The name of the file of this number; nothing where there is none.
+/// Returns the name of the file of this number, or nothing if there is no such file.
 fn name_of(names: &[Name], number: u32) -> &[u8]
     ensures { result.now ≡ unwrap_or (slice_get names.now number) [] }
 {
@@ -31,7 +32,7 @@ fn push_finding(
     text.extend_from_slice(printed.as_bytes())
 }
 
-/// The text of a report.
+/// Returns the text of a report. Fails only if memory runs out.
 pub fn text_of_report(alloc: Global, report: &Report) -> Result<Vec<u8>, AllocError>
     ensures { IfOk result (λ text. text.items ≡ report_text report.now.names report.now.findings) }
 {

@@ -1,3 +1,4 @@
+//! The rules of the language, for a program and its sync list.
 ghost use Rattle.std.specs.Prelude.{◌≤◌, ◌↔◌, ◌≡◌, IfOk, length};
 ghost use Rattle.std.specs.List.{Contains};
 ghost use Rattle.std.specs.Option.{option_copied};
@@ -12,12 +13,12 @@ use findings::sort_findings;
 use ipdl_base::{Finding, Items, Name, Report};
 use ipdl_syntax::{Entry, Program};
 use name_table::Names;
-use proto_rules::add_of_protocols;
+use program_schema::add_of_protocols;
 use std::alloc::{AllocError, Global};
 use sync_list::{SyncList, add_of_list};
 use type_rules::add_of_types;
 
-/// All findings that hold of a program, and of its sync list where it has one, in some order.
+/// Returns all findings of a program, and of its sync list if it has one, in some order. Fails only if memory runs out.
 fn gathered(
     alloc: Global,
     program: &Program,
@@ -37,7 +38,7 @@ fn gathered(
     Ok(found)
 }
 
-/// How a report calls the files of a program.
+/// Returns the names by which a report calls the files of a program. Fails only if memory runs out.
 pub fn names_of(alloc: Global, program: &[Entry]) -> Result<Vec<Name>, AllocError>
     ensures { IfOk result (λ names. names.items ≡ the_names_of program.now) }
 {
@@ -48,7 +49,7 @@ pub fn names_of(alloc: Global, program: &[Entry]) -> Result<Vec<Name>, AllocErro
     Ok(names)
 }
 
-/// The report of these findings on files that are called so, and on the list behind them.
+/// Returns the report of these findings, on files of these names and on the list after them. Fails only if memory runs out.
 pub fn report_of(
     alloc: Global,
     found: Vec<Finding>,
@@ -67,7 +68,7 @@ pub fn report_of(
     })
 }
 
-/// What is found of a program by the rules of the language, and by those of its sync list where it has one.
+/// Checks a program by the rules of the language, and by those of its sync list if it has one. Fails only if memory runs out.
 pub fn rule_checked(
     alloc: Global,
     program: &Program,

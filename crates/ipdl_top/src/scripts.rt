@@ -1,8 +1,8 @@
+//! The script of a command, and the rules that it breaks.
 ghost use Rattle.std.specs.Prelude.{◌≡◌, ◌≤◌, ◌<◌, [], ◌∷◌, ℕ, IfOk, List, Option, length};
 ghost use Rattle.ipdl_base.specs.Sound.{IsSound};
 ghost use Rattle.ipdl_top.specs.ScriptSteps.{IsHeldChecked, IsScriptChecked, IsTextChecked, IsUnreadable, IsValidChecked};
-ghost use Rattle.ipdl_top.specs.Steps.{IsHeld, IsSmall};
-ghost use Rattle.ipdl_top.specs.Waits.{IsTop};
+ghost use Rattle.ipdl_top.specs.Steps.{HasTopOf, IsHeld, IsSmall};
 
 use crate::waits::top_of;
 use handler_script::{Script, ScriptFault, read_script};
@@ -11,23 +11,34 @@ use ipdl_base::{
 };
 use std::alloc::{AllocError, Global};
 
-/// The script as a whole.
+/// The place of a script as a whole.
 const WHOLE_SCRIPT: Place = Place {
     file: 0,
     line: 0,
     column: 0,
 };
 
+/// The script of a command, as it was found.
+#[derive(Drop)]
+pub struct ScriptFile<'c> {
+    /// The name of the file of the top protocol.
+    pub file: &'c str,
+    /// The name of the script.
+    pub name: &'c str,
+    /// What was found of the script.
+    pub found: &'c FileBytes,
+}
+
 /// What was found of a script.
 #[derive(Drop)]
 pub enum ScriptCheck {
-    /// It breaks rules: the report.
+    /// It breaks rules. The report has them.
     Broken(Report),
-    /// It breaks none.
+    /// It breaks no rule.
     Valid(Script),
 }
 
-/// A script of this name breaks these rules.
+/// Returns that a script of this name breaks these rules. Fails only if memory runs out.
 fn broken_script(alloc: Global, name: &str, findings: Findings) -> Result<ScriptCheck, AllocError>
     ensures { IfOk result (λ checked. checked ≡ ScriptCheck.Broken (record { findings = findings; names = name.now ∷ [] })) }
 {
@@ -39,7 +50,7 @@ fn broken_script(alloc: Global, name: &str, findings: Findings) -> Result<Script
     }))
 }
 
-/// A script of this name is absent, or has more bytes than are read.
+/// Returns that a script of this name is absent, or has more bytes than are read. Fails only if memory runs out.
 fn unreadable_script(alloc: Global, name: &str) -> Result<ScriptCheck, AllocError>
     ensures { IfOk result (IsUnreadable name.now) }
 {
@@ -51,7 +62,7 @@ fn unreadable_script(alloc: Global, name: &str) -> Result<ScriptCheck, AllocErro
     broken_script(alloc, name, Items::from_vec(found))
 }
 
-/// What is found of the text of a script.
+/// Checks the text of a script.
 fn text_checked(
     alloc: Global,
     schema: &Schema,
@@ -72,7 +83,7 @@ fn text_checked(
     }
 }
 
-/// What is found of a script by what is held of it.
+/// Checks a script by what was found of its file.
 fn held_checked(
     alloc: Global,
     schema: &Schema,
@@ -92,23 +103,22 @@ fn held_checked(
     }
 }
 
-/// What is found of a script of this name under the schema of a file's program, by what is held of it.
+/// Checks a script under the schema of a program: the script of its text, or the report on the rules that it breaks. Fails only
+/// if memory runs out.
 pub fn script_checked(
     alloc: Global,
     schema: &Schema,
-    file: &str,
-    name: &str,
-    held: &FileBytes,
+    script: &ScriptFile<'_>,
 ) -> Result<ScriptCheck, AllocError>
-    requires small { IsSmall held.now }
+    requires small { IsSmall script.now.found.now }
     requires sound { IsSound schema.now }
-    requires top { (top : ℕ) × IsTop file.now schema.now top }
-    ensures found { IfOk result (λ checked. (text : Option (List ℕ)) → IsHeld text held.now
-        → IsScriptChecked name.now text file.now schema.now checked) }
+    requires top { HasTopOf script.now.file.now schema.now }
+    ensures found { IfOk result (λ checked. (text : Option (List ℕ)) → IsHeld text script.now.found.now
+        → IsScriptChecked script.now.name.now text script.now.file.now schema.now checked) }
     ensures valid { IfOk result (IsValidChecked schema.now) }
 {
-    let Some(top) = top_of(schema, file) else {
+    let Some(top) = top_of(schema, script.file) else {
         unreachable!();
     };
-    held_checked(alloc, schema, top, name, held)
+    held_checked(alloc, schema, top, script.name, script.found)
 }

@@ -1,3 +1,5 @@
+//! How a call of the program ends.
+
 /// How a call of the program ends (docs/theorems.md, "The answer").
 #[derive(Clone, Copy, Debug, PartialEq, Eq)]
 pub enum Status {
@@ -5,21 +7,21 @@ pub enum Status {
     Done,
     /// The report is not empty.
     Broken,
-    /// The words are no command.
+    /// The words are not a command.
     Usage,
     /// A read failed.
     ReadFault,
     /// A write failed.
     WriteFault,
-    /// A side of the history that was printed has something to do, but as many events as it may have.
+    /// A side of the history that was printed has something to do, but already has the most events.
     Spent,
     /// Memory ran out.
     NoMemory,
     /// The script breaks a rule.
     BadScript,
-    /// The file of frames is missing, has more bytes than a file may have, or is no list of frames.
+    /// The file of frames is missing, has more bytes than a file may have, or is not a list of frames.
     BadFrames,
-    /// The text to audit is missing, has more bytes than one may have, or is none that a run prints.
+    /// The text to audit is missing, has more bytes than a text may have, or is not one that a run prints.
     BadTranscript,
 }
 
@@ -27,7 +29,7 @@ impl Status {
     ghost use Rattle.std.specs.Prelude.{◌≡◌};
     ghost use Rattle.ipdl_top.specs.Codes.{code_of};
 
-    /// The number with which the process ends.
+    /// Returns the number with which the process ends.
     pub fn code(self) -> u8
         ensures { result ≡ code_of self }
     {

@@ -3,18 +3,18 @@ ghost use Rattle.std.specs.Prelude.{◌≡◌, ◌<◌, ◌++◌, ℕ, IfOk, IfS
 ghost use Rattle.std.specs.List.{position};
 ghost use Rattle.history.specs.Words as words;
 ghost use Rattle.ipdl_base.specs.Sound.{IsSound};
-ghost use Rattle.ipdl_top.specs.Steps.{HasTop, IsSoundChecked, IsToldOf};
+ghost use Rattle.ipdl_top.specs.Steps.{HasTop, HasTopOf, IsSoundChecked, IsToldOf};
 ghost use Rattle.ipdl_top.specs.Waits.{IsTop, SaysWaits, bears_name, pair_line, waits_text};
 
 use crate::answer::CommandAnswer;
 use crate::checked::CheckResult;
-use crate::status::Status;
+use crate::pipeline::{BySchema, answer_by_schema};
 use history::push_message;
 use ipdl_base::{PROTOCOL_ENDING, ProtocolRow, Schema, Side, key_of, short_name};
 use std::alloc::{AllocError, Global};
 use wait_report::{Pair, pairs};
 
-/// Whether a protocol bears the name of a file.
+/// Returns whether a protocol has the name of a file.
 fn has_name(row: &ProtocolRow, file: &str) -> bool
     ensures { result ≡ bears_name file.now row.now }
 {
@@ -24,7 +24,7 @@ fn has_name(row: &ProtocolRow, file: &str) -> bool
     }
 }
 
-/// The place of the first protocol that bears the name of a file.
+/// Returns the place of the first protocol that has the name of a file, or `None`.
 fn place_of(rows: &[ProtocolRow], file: &str) -> Option<usize>
     ensures place { result ≡ position (bears_name file.now) rows.now }
     ensures bound { IfSome result (λ i. i < length rows.now) }
@@ -32,7 +32,7 @@ fn place_of(rows: &[ProtocolRow], file: &str) -> Option<usize>
     rows.iter().position(|row| has_name(row, file))
 }
 
-/// The number of the protocol of a file, which is the first that bears its name.
+/// Returns the number of the protocol of a file, which is the first that has its name, or `None`.
 pub fn top_of(schema: &Schema, file: &str) -> Option<u32>
     requires { IsSound schema.now }
     ensures { MatchOption result ((top : ℕ) → ¬ IsTop file.now schema.now top) (IsTop file.now schema.now) }
@@ -43,7 +43,7 @@ pub fn top_of(schema: &Schema, file: &str) -> Option<u32>
     }
 }
 
-/// The word of a side.
+/// Returns the word of a side.
 fn side_word(side: Side) -> &'static [u8]
     ensures { result.now ≡ words.side_word side }
 {
@@ -66,8 +66,8 @@ fn push_pair(out: &mut Vec<u8>, schema: &Schema, pair: &Pair) -> Result<(), Allo
     out.extend_from_slice(b"\n")
 }
 
-/// A line for each pair.
-fn text_of(alloc: Global, schema: &Schema, pairs: &[Pair]) -> Result<Vec<u8>, AllocError>
+/// Returns a line for each pair.
+fn text_of_pairs(alloc: Global, schema: &Schema, pairs: &[Pair]) -> Result<Vec<u8>, AllocError>
     requires { IsSound schema.now }
     ensures { IfOk result (λ text. text.items ≡ waits_text schema.now pairs.now) }
 {
@@ -78,21 +78,31 @@ fn text_of(alloc: Global, schema: &Schema, pairs: &[Pair]) -> Result<Vec<u8>, Al
     Ok(out)
 }
 
-/// What is said of the schema of a file's program.
-fn waits_answer(alloc: Global, schema: &Schema, file: &str) -> Result<CommandAnswer, AllocError>
-    requires sound { IsSound schema.now }
-    requires top { (top : ℕ) × IsTop file.now schema.now top }
-    ensures { IfOk result (SaysWaits file.now schema.now) }
-{
-    let Some(top) = top_of(schema, file) else {
-        unreachable!();
-    };
-    let found = pairs(alloc, schema, top)?;
-    let text = text_of(alloc, schema, found.as_slice())?;
-    Ok(CommandAnswer::of_table(alloc, text))
+/// What may interrupt the waits of the protocol of a file.
+#[derive(Drop)]
+struct WaitsCommand<'w> {
+    file: &'w str,
 }
 
-/// Answers the command that lists what may interrupt a wait: the report on the files, or the lines of the pairs.
+impl<'w> BySchema for WaitsCommand<'w> {
+    ghost Ready = { λ c. Unit {0} };
+
+    ghost Fits = { λ c schema. HasTopOf c.file.now schema };
+
+    ghost Says = { λ c schema. SaysWaits c.file.now schema };
+
+    fn by_schema(self, alloc: Global, schema: &Schema) -> Result<CommandAnswer, AllocError> {
+        let Some(top) = top_of(schema, self.file) else {
+            unreachable!();
+        };
+        let found = pairs(alloc, schema, top)?;
+        let text = text_of_pairs(alloc, schema, found.as_slice())?;
+        Ok(CommandAnswer::of_table(alloc, text))
+    }
+}
+
+/// Answers the command that lists what may interrupt a wait: the report on the files, or the lines of the pairs. Fails only if
+/// memory runs out.
 pub fn answer_waits(
     alloc: Global,
     checked: CheckResult,
@@ -102,8 +112,5 @@ pub fn answer_waits(
     requires top { HasTop file.now checked }
     ensures { IfOk result (IsToldOf (SaysWaits file.now) checked) }
 {
-    match checked {
-        CheckResult::Broken(report) => CommandAnswer::of_report(alloc, Status::Broken, &report),
-        CheckResult::Clean(schema) => waits_answer(alloc, &schema, file),
-    }
+    answer_by_schema(alloc, checked, WaitsCommand { file })
 }

@@ -1,6 +1,7 @@
+//! The writing of an answer.
 ghost use Rattle.std.specs.Prelude.{◌≡◌, ◌⊎◌, OnOk, OnErr};
 ghost use Rattle.ipdl_base.specs.Outside.{Appends, Rose};
-ghost use Rattle.ipdl_top.specs.Written.{AppendsFront, WritesAll, WritesFront};
+ghost use Rattle.ipdl_top.specs.Written.{AppendsPrefix, WritesAll, WritesPrefix};
 
 use crate::answer::CommandAnswer;
 use ipdl_base::{Sink, WriteAnswer};
@@ -9,10 +10,10 @@ use ipdl_base::{Sink, WriteAnswer};
 #[derive(Clone, Copy, Debug, PartialEq, Eq)]
 pub struct WriteFault;
 
-/// Writes all of a text, piece by piece, or a front of it where a write fails.
+/// Writes all of a text, piece by piece. If a write fails, a prefix of the text is written.
 fn write_all<S: Sink>(sink: &mut S, text: &[u8]) -> Result<(), WriteFault>
     ensures ok { OnOk result (Appends (S.written sink.old) (S.written sink.new) text.now) }
-    ensures front { OnErr result (AppendsFront (S.written sink.old) (S.written sink.new) text.now) }
+    ensures front { OnErr result (AppendsPrefix (S.written sink.old) (S.written sink.new) text.now) }
     ensures failed { OnErr result (Rose (S.faults sink.old) (S.faults sink.new)) }
 {
     let mut rest = text;
@@ -28,8 +29,7 @@ fn write_all<S: Sink>(sink: &mut S, text: &[u8]) -> Result<(), WriteFault>
     Ok(())
 }
 
-/// Writes an answer: its text for `out`, and then its text for `err`. Where a write fails, nothing
-/// is written from there on.
+/// Writes an answer: its text for `out`, and then its text for `err`. If a write fails, nothing is written after it.
 pub fn write_answer<O: Sink, E: Sink>(
     answer: &CommandAnswer,
     out: &mut O,
@@ -38,7 +38,7 @@ pub fn write_answer<O: Sink, E: Sink>(
     ensures all { OnOk result (WritesAll answer.now
         (record { old = O.written out.old; new = O.written out.new })
         (record { old = E.written err.old; new = E.written err.new })) }
-    ensures front { OnErr result (WritesFront answer.now
+    ensures front { OnErr result (WritesPrefix answer.now
         (record { old = O.written out.old; new = O.written out.new })
         (record { old = E.written err.old; new = E.written err.new })) }
     ensures failed { OnErr result (Rose (O.faults out.old) (O.faults out.new) ⊎ Rose (E.faults err.old) (E.faults err.new)) }

@@ -1,3 +1,4 @@
+//! The law Fallen: which actors fall, and in which order.
 ghost use Rattle.std.specs.Prelude.{◌≡◌, ℤ, reverse};
 ghost use Rattle.history_reading.specs.Fallen as the;
 ghost use Rattle.history_reading.specs.EndReadings.{end_view};
@@ -14,7 +15,7 @@ fn manages_living(built: &[BuiltActor], fallen: &NumberList, id: i32) -> bool
         .any(|actor| actor.manager == id && !fallen.has(actor.id))
 }
 
-/// Whether a younger one of the same manager has fallen in the event.
+/// Whether a younger actor of the same manager has fallen in the event.
 fn younger_fell(falls: &[ActorPlace], actor: &ActorPlace) -> bool
     ensures { result ≡ the.younger_fell_of falls.now actor.now }
 {
@@ -28,7 +29,7 @@ fn is_empty(built: &[BuiltActor], fallen: &NumberList) -> bool
     built.iter().all(|actor| fallen.has(actor.id))
 }
 
-/// Whether an actor is below another among those that were built.
+/// Whether an actor is below another among the actors that were built.
 fn is_below(built: &[BuiltActor], id: i32, top: i32) -> bool
     ensures { result ≡ the.is_below built.now id top }
 {
@@ -58,7 +59,8 @@ fn same_destroy(a: Destroy, b: Destroy) -> bool
     )
 }
 
-/// Whether a destructor at an actor lets one fall for this reason.
+/// Whether a destructor destroys an actor for this reason, where `top` is the actor that it
+/// deletes.
 fn is_deleted(built: &[BuiltActor], top: i32, id: i32, why: Destroy) -> bool
     ensures { result ≡ the.is_deleted built.now top id why }
 {
@@ -69,7 +71,7 @@ fn is_deleted(built: &[BuiltActor], top: i32, id: i32, why: Destroy) -> bool
     }
 }
 
-/// Whether the event lets an actor fall for this reason.
+/// Whether the event destroys an actor for this reason.
 #[tactic(auto, unfolding(history_reading::specs::Fallen::lets_fall))]
 fn lets_fall(built: &[BuiltActor], cause: Cause, id: i32, why: Destroy) -> bool
     ensures { result ≡ the.lets_fall built.now cause id why }
@@ -81,7 +83,7 @@ fn lets_fall(built: &[BuiltActor], cause: Cause, id: i32, why: Destroy) -> bool
     }
 }
 
-/// Whether a younger one of the manager of an actor has fallen in the event.
+/// Whether a younger actor of the same manager as this one has fallen in the event.
 fn has_younger_fall(own: &EndReading<'_>, id: i32) -> bool
     ensures { result ≡ the.younger_fell (end_view own.now) id }
 {
@@ -89,7 +91,7 @@ fn has_younger_fall(own: &EndReading<'_>, id: i32) -> bool
     younger_fell(own.falls.as_slice(), &standing)
 }
 
-/// Whether an actor manages one that lives.
+/// Whether an actor manages a living one.
 fn has_living_below(own: &EndReading<'_>, id: i32) -> bool
     ensures { result ≡ the.manages_living (end_view own.now) id }
 {
@@ -118,7 +120,7 @@ fn may_fall(own: &EndReading<'_>, id: i32, why: Destroy) -> bool
     own.lives(id) && falls_now(own, id, why)
 }
 
-/// Whether a line is as the law demands.
+/// Whether a line obeys the law.
 pub fn fallen_line(own: &EndReading<'_>, what: &What) -> bool
     ensures { result ≡ the.fallen_line (end_view own.now) what.now }
 {
@@ -129,7 +131,7 @@ pub fn fallen_line(own: &EndReading<'_>, what: &What) -> bool
     }
 }
 
-/// Whether an end that has closed has nobody left.
+/// Whether no actor lives at an end that has closed.
 pub fn fallen_moment(own: &EndReading<'_>) -> bool
     ensures { result ≡ the.fallen_moment (end_view own.now) }
 {

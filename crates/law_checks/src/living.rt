@@ -1,3 +1,4 @@
+//! The law Living: events concern living actors.
 ghost use Rattle.std.specs.Prelude.{◌≡◌};
 ghost use Rattle.ipdl_base.specs.Sound.{IsSound};
 ghost use Rattle.history_reading.specs.EndReadings.{end_view};
@@ -8,17 +9,7 @@ ghost use Rattle.history_reading.specs.Numbers.{id_of};
 use history_reading::{EndReading, EventKind, Request, all_live, missing};
 use ipdl_base::{ParamRow, Schema, Side, Values, What, params_of};
 
-/// The other end.
-fn other_side(side: Side) -> Side
-    ensures { result ≡ the.other_side side }
-{
-    match side {
-        Side::Parent => Side::Child,
-        Side::Child => Side::Parent,
-    }
-}
-
-/// The id of the `k`-th actor that an end constructs.
+/// Returns the id of the `k`-th actor that an end constructs.
 fn id_of(side: Side, k: usize) -> i128
     ensures { result ≡ id_of side k }
 {
@@ -28,7 +19,7 @@ fn id_of(side: Side, k: usize) -> i128
     }
 }
 
-/// The actor that a request makes, 0 where it makes none.
+/// Returns the actor that a request makes, or 0.
 fn made_id(sender: Side, request: &Request<'_>) -> i128
     ensures { result ≡ the.made_id sender (request_view request.now) }
 {
@@ -39,7 +30,7 @@ fn made_id(sender: Side, request: &Request<'_>) -> i128
     }
 }
 
-/// The actor that the request of a number of an end makes, 0 where it makes none.
+/// Returns the actor that the request of a number of an end makes, or 0.
 fn request_makes(sender: Side, own: &EndReading<'_>, n: i32) -> i128
     ensures { result ≡ the.request_makes sender (end_view own.now) n }
 {
@@ -49,13 +40,13 @@ fn request_makes(sender: Side, own: &EndReading<'_>, n: i32) -> i128
     }
 }
 
-/// The actor that is made in an event, 0 where none is.
+/// Returns the actor that is made in an event, or 0.
 fn event_makes(side: Side, own: &EndReading<'_>, other: &EndReading<'_>, event: EventKind) -> i128
     ensures { result ≡ the.event_makes side (end_view own.now) (end_view other.now) event }
 {
     match event {
         EventKind::Sends(n, _) => request_makes(side, own, n),
-        EventKind::Takes(n, _) => request_makes(other_side(side), other, n),
+        EventKind::Takes(n, _) => request_makes(side.other(), other, n),
         EventKind::Ends | EventKind::Closes | EventKind::Other => 0,
     }
 }
@@ -138,14 +129,14 @@ fn is_taken_alive(
     own.lives(route) && all_live(schema, own, params_of(schema, number), values)
 }
 
-/// Whether an actor is built as the law demands.
+/// Whether an actor is built as the law requires.
 fn is_built_right(side: Side, own: &EndReading<'_>, other: &EndReading<'_>, id: i32) -> bool
     ensures { result ≡ the.is_built_right side (end_view own.now) (end_view other.now) id }
 {
     !own.was_built(id) && is_made(side, own, other, id)
 }
 
-/// Whether a line is as the law demands.
+/// Whether a line obeys the law.
 pub fn living_line(
     schema: &Schema,
     side: Side,

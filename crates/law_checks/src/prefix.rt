@@ -1,3 +1,4 @@
+//! The law Prefix: deliveries are a prefix of what was sent.
 ghost use Rattle.std.specs.Prelude.{◌≡◌};
 ghost use Rattle.ipdl_base.specs.Sound.{IsSound};
 ghost use Rattle.history_reading.specs.EndReadings.{end_view};
@@ -9,7 +10,7 @@ ghost use Rattle.history_reading.specs.SentPacket.{packet_kind};
 use history_reading::{EndReading, PacketKind, Request, SentPacket, is_nulled};
 use ipdl_base::{Schema, Values, What, params_of};
 
-/// What a delivery shows of a packet.
+/// Returns what a delivery shows of a packet.
 fn packet_kind(told: &SentPacket<'_>) -> PacketKind
     ensures { result ≡ packet_kind (packet_view told.now) }
 {
@@ -21,14 +22,14 @@ fn packet_kind(told: &SentPacket<'_>) -> PacketKind
     }
 }
 
-/// Whether a packet is there among those that are shown.
+/// Whether a packet is among those that are shown.
 fn has_packet(packets: &[PacketKind], packet: PacketKind) -> bool
     ensures { result ≡ has_packet packets.now packet }
 {
     packets.iter().any(|other| other.same(&packet))
 }
 
-/// Whether a packet is the next of those that were sent behind so many.
+/// Whether a packet is the next of those that were sent, after `count` of them.
 fn is_next_of(sent: &[SentPacket<'_>], count: usize, packet: PacketKind) -> bool
     ensures { result ≡ the.is_next_of (sent_view sent.now) count packet }
 {
@@ -102,7 +103,7 @@ fn is_reply_there(own: &EndReading<'_>, n: i32) -> bool
     has_packet(own.delivered.as_slice(), PacketKind::Reply(n)) && !own.replies.has(n)
 }
 
-/// Whether a line is as the law demands.
+/// Whether a line obeys the law.
 pub fn prefix_line(
     schema: &Schema,
     own: &EndReading<'_>,

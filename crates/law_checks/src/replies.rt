@@ -1,4 +1,4 @@
-//! Tests of what replies say.
+//! Tests of the contents of replies.
 ghost use Rattle.std.specs.Prelude.{◌≡◌};
 ghost use Rattle.std.specs.List.{list_any};
 ghost use Rattle.law_checks.specs.Asking.{is_asked};
@@ -7,9 +7,11 @@ ghost use Rattle.history_reading.specs.Views.{reply_view, sent_view, packet_view
 ghost use Rattle.history_reading.specs.Settled as settled;
 ghost use Rattle.history_reading.specs.SentPacket.{is_said, says};
 ghost use Rattle.history_reading.specs.Waits as waits;
+ghost use Rattle.history_reading.specs.Waits.{own_returns};
+ghost use Rattle.ipdl_base.specs.Sound.{IsSound};
 
 use history_reading::{EndReading, ReplyContent, SentPacket, is_nulled, missing};
-use ipdl_base::{ParamRow, Reason, Schema, Values};
+use ipdl_base::{ParamRow, Reason, Schema, Values, returns_of};
 
 /// Whether both are the same reason.
 fn same_reason(a: Reason, b: Reason) -> bool
@@ -24,7 +26,7 @@ fn same_reason(a: Reason, b: Reason) -> bool
     )
 }
 
-/// Whether a reply says a fault.
+/// Whether a reply is a fault of this reason.
 fn is_fault(said: &ReplyContent<'_>, reason: Reason) -> bool
     ensures { result ≡ waits.is_fault reason (reply_view said.now) }
 {
@@ -103,7 +105,18 @@ fn is_resolved_missing(
     }
 }
 
-/// What a test asks of the replies to the request of a number.
+/// Returns the return types of an end's request of a number.
+pub fn own_returns<'s>(schema: &'s Schema, own: &EndReading<'_>, n: i32) -> &'s [ParamRow]
+    requires { IsSound schema.now }
+    ensures { result.now ≡ own_returns schema.now (end_view own.now) n }
+{
+    match own.sent.request(n) {
+        Some(request) => returns_of(schema, request.number),
+        None => &[],
+    }
+}
+
+/// What a test requires of a reply to the request of a number.
 #[derive(Clone, Copy)]
 pub enum ReplyTest<'a> {
     Fault(Reason),
@@ -114,7 +127,7 @@ pub enum ReplyTest<'a> {
     ResolvedMissing(&'a [ParamRow]),
 }
 
-/// Whether a reply is as it is asked.
+/// Whether a reply passes a test.
 fn answers(
     said: &ReplyContent<'_>,
     schema: &Schema,
@@ -135,7 +148,7 @@ fn answers(
     }
 }
 
-/// Whether a packet is a reply to the request of a number that is as it is asked.
+/// Whether a packet is a reply to the request of a number, and passes a test.
 fn is_said(
     told: &SentPacket<'_>,
     schema: &Schema,
@@ -151,7 +164,7 @@ fn is_said(
     }
 }
 
-/// Whether some packet is.
+/// Whether some packet is such a reply.
 fn some_is_said(
     sent: &[SentPacket<'_>],
     schema: &Schema,
@@ -164,8 +177,8 @@ fn some_is_said(
     sent.iter().any(|told| is_said(told, schema, own, n, asked))
 }
 
-/// Whether some reply of an end to the request of a number is as it is asked, where `own` is what is read of
-/// the end that reads it.
+/// Whether some reply of an end to the request of a number passes a test, where `own` is what is
+/// read of the end that receives it.
 pub fn says(
     schema: &Schema,
     own: &EndReading<'_>,

@@ -1,3 +1,4 @@
+//! The law Settled: promises are settled once, each for a cause.
 ghost use Rattle.std.specs.Prelude.{◌≡◌, find, not};
 ghost use Rattle.std.specs.List.{list_all};
 ghost use Rattle.ipdl_base.specs.Sound.{IsSound};
@@ -5,23 +6,11 @@ ghost use Rattle.history_reading.specs.EndReading.{is_promise, is_settled_packet
 ghost use Rattle.history_reading.specs.EndReadings.{end_view};
 ghost use Rattle.history_reading.specs.Views.{sent_view, packet_view};
 ghost use Rattle.history_reading.specs.Settled as the;
-ghost use Rattle.history_reading.specs.Waits.{own_returns};
 
-use crate::readable::same_side;
-use crate::replies::{ReplyTest, says};
+use crate::replies::{ReplyTest, own_returns, says};
 use history_reading::{EndReading, EventKind, NumberList, SentPacket};
-use ipdl_base::{Line, ParamRow, Reason, Schema, Side, Values, What, returns_of};
-
-/// The returns of an end's request of a number.
-pub fn own_returns<'s>(schema: &'s Schema, own: &EndReading<'_>, n: i32) -> &'s [ParamRow]
-    requires { IsSound schema.now }
-    ensures { result.now ≡ own_returns schema.now (end_view own.now) n }
-{
-    match own.sent.request(n) {
-        Some(request) => returns_of(schema, request.number),
-        None => &[],
-    }
-}
+use ipdl_base::{Line, Reason, Schema, Side, Values, What};
+use reading_checks::same_side;
 
 /// Whether the end's request of a number is async with returns.
 fn is_promise(own: &EndReading<'_>, n: i32) -> bool
@@ -72,10 +61,10 @@ fn is_fall_at(line: &Line, side: Side, id: i32) -> bool
 }
 
 /// Whether the first line that settles nothing is the fall of this actor at this end.
-fn falls_next(behind: &[Line], side: Side, id: i32) -> bool
-    ensures { result ≡ the.falls_next side id behind.now }
+fn falls_next(following: &[Line], side: Side, id: i32) -> bool
+    ensures { result ≡ the.falls_next side id following.now }
 {
-    for line in behind {
+    for line in following {
         if !is_settle(&line.what) {
             return is_fall_at(line, side, id);
         }
@@ -85,19 +74,19 @@ fn falls_next(behind: &[Line], side: Side, id: i32) -> bool
 
 /// Whether the actor of a promise falls next.
 #[tactic(auto, unfolding(history_reading::specs::Settled::promise_falls_next))]
-fn promise_falls_next(behind: &[Line], side: Side, own: &EndReading<'_>, n: i32) -> bool
-    ensures { result ≡ the.promise_falls_next side (end_view own.now) n behind.now }
+fn promise_falls_next(following: &[Line], side: Side, own: &EndReading<'_>, n: i32) -> bool
+    ensures { result ≡ the.promise_falls_next side (end_view own.now) n following.now }
 {
     match own.sent.request(n) {
-        Some(request) => falls_next(behind, side, request.route),
+        Some(request) => falls_next(following, side, request.route),
         None => false,
     }
 }
 
-/// Whether the other end says that an actor was destroyed.
-#[tactic(auto, unfolding(history_reading::specs::Settled::says_fallen))]
-fn says_fallen(schema: &Schema, own: &EndReading<'_>, other: &EndReading<'_>, n: i32) -> bool
-    ensures { result ≡ the.says_fallen (end_view other.now) n }
+/// Whether the other end reports that an actor was destroyed.
+#[tactic(auto, unfolding(history_reading::specs::Settled::reports_fallen))]
+fn reports_fallen(schema: &Schema, own: &EndReading<'_>, other: &EndReading<'_>, n: i32) -> bool
+    ensures { result ≡ the.reports_fallen (end_view other.now) n }
 {
     let asked = ReplyTest::Fault(Reason::ActorDestroyed);
     says(schema, own, other, n, &asked)
@@ -113,12 +102,12 @@ fn resolves_missing(schema: &Schema, own: &EndReading<'_>, other: &EndReading<'_
     says(schema, own, other, n, &asked)
 }
 
-/// Whether it does one or the other.
-fn says_destroyed(schema: &Schema, own: &EndReading<'_>, other: &EndReading<'_>, n: i32) -> bool
+/// Whether the other end does one or the other.
+fn reports_destroyed(schema: &Schema, own: &EndReading<'_>, other: &EndReading<'_>, n: i32) -> bool
     requires { IsSound schema.now }
-    ensures { result ≡ the.says_destroyed schema.now (end_view own.now) (end_view other.now) n }
+    ensures { result ≡ the.reports_destroyed schema.now (end_view own.now) (end_view other.now) n }
 {
-    says_fallen(schema, own, other, n) || resolves_missing(schema, own, other, n)
+    reports_fallen(schema, own, other, n) || resolves_missing(schema, own, other, n)
 }
 
 /// Whether a promise may be rejected because an actor was destroyed.
@@ -129,12 +118,12 @@ fn is_destroyed(
     own: &EndReading<'_>,
     other: &EndReading<'_>,
     n: i32,
-    behind: &[Line],
+    following: &[Line],
 ) -> bool
     requires { IsSound schema.now }
-    ensures { result ≡ the.is_destroyed schema.now side (end_view own.now) (end_view other.now) n behind.now }
+    ensures { result ≡ the.is_destroyed schema.now side (end_view own.now) (end_view other.now) n following.now }
 {
-    says_destroyed(schema, own, other, n) || promise_falls_next(behind, side, own, n)
+    reports_destroyed(schema, own, other, n) || promise_falls_next(following, side, own, n)
 }
 
 /// Whether a rejection has its cause.
@@ -144,11 +133,11 @@ fn is_cause(
     own: &EndReading<'_>,
     other: &EndReading<'_>,
     n: i32,
-    behind: &[Line],
+    following: &[Line],
     reason: Reason,
 ) -> bool
     requires { IsSound schema.now }
-    ensures { result ≡ the.is_cause schema.now side (end_view own.now) (end_view other.now) n behind.now reason }
+    ensures { result ≡ the.is_cause schema.now side (end_view own.now) (end_view other.now) n following.now reason }
 {
     match reason {
         Reason::HandlerRejected => says(schema, own, other, n, &ReplyTest::Rejected),
@@ -160,7 +149,7 @@ fn is_cause(
             &ReplyTest::Fault(Reason::ResolverDestroyed),
         ),
         Reason::ChannelClosed => is_close_event(own.event),
-        Reason::ActorDestroyed => is_destroyed(schema, side, own, other, n, behind),
+        Reason::ActorDestroyed => is_destroyed(schema, side, own, other, n, following),
     }
 }
 
@@ -179,30 +168,30 @@ fn is_resolved(
     says(schema, own, other, n, &asked)
 }
 
-/// Whether a line is as the law demands, before the lines behind it.
+/// Whether a line obeys the law, before the lines after it.
 pub fn settled_line(
     schema: &Schema,
     side: Side,
     own: &EndReading<'_>,
     other: &EndReading<'_>,
     what: &What,
-    behind: &[Line],
+    following: &[Line],
 ) -> bool
     requires { IsSound schema.now }
-    ensures { result ≡ the.settled_line schema.now side (end_view own.now) (end_view other.now) what.now behind.now }
+    ensures { result ≡ the.settled_line schema.now side (end_view own.now) (end_view other.now) what.now following.now }
 {
     match what {
         What::Resolved(n, values) => {
             is_unsettled(own, *n) && is_resolved(schema, own, other, *n, values)
         }
         What::Rejected(n, reason) => {
-            is_unsettled(own, *n) && is_cause(schema, side, own, other, *n, behind, *reason)
+            is_unsettled(own, *n) && is_cause(schema, side, own, other, *n, following, *reason)
         }
         _ => true,
     }
 }
 
-/// Whether a packet that is a request which is async with returns is settled.
+/// Whether a packet is settled if it is a request which is async with returns.
 fn is_settled_packet(settled: &NumberList, told: &SentPacket<'_>) -> bool
     ensures { result ≡ is_settled_packet settled.now (packet_view told.now) }
 {
@@ -212,7 +201,7 @@ fn is_settled_packet(settled: &NumberList, told: &SentPacket<'_>) -> bool
     }
 }
 
-/// Whether each packet is.
+/// Whether each packet is settled if it is such a request.
 fn are_settled(settled: &NumberList, sent: &[SentPacket<'_>]) -> bool
     ensures { result ≡ list_all (λ t. is_settled_packet settled.now (packet_view t)) sent.now }
 {

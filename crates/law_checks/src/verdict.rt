@@ -1,3 +1,4 @@
+//! Decides each law by a walk over the lines.
 ghost use Rattle.std.specs.Prelude.{◌≡◌, ◌↔◌, IfOk, IsTrue};
 ghost use Rattle.ipdl_base.specs.Sound.{IsSound};
 ghost use Rattle.history_reading.specs.Holds as the;
@@ -7,20 +8,26 @@ ghost use Rattle.history_reading.specs.Readings.{reading_view};
 use crate::fallen::{fallen_line, fallen_moment};
 use crate::living::living_line;
 use crate::prefix::prefix_line;
-use crate::readable::is_readable;
 use crate::settled::{settled_line, settled_moment};
 use crate::waits::{waits_line, waits_moment};
 use history::History;
 use history_reading::{Law, Reading};
 use ipdl_base::{Line, Schema, What, is_effect};
+use reading_checks::is_readable;
 use std::alloc::{AllocError, Global};
 
-/// The test of a law of a line, before the lines behind it.
-fn line_test(law: Law, schema: &Schema, reading: &Reading<'_>, line: &Line, behind: &[Line]) -> bool
+/// Whether a line obeys a law, before the lines after it.
+fn line_test(
+    law: Law,
+    schema: &Schema,
+    reading: &Reading<'_>,
+    line: &Line,
+    following: &[Line],
+) -> bool
     requires { IsSound schema.now }
     ensures { result ≡ the.line_test law schema.now line.now.side
         (end_reading_of line.now.side (reading_view reading.now))
-        (other_of line.now.side (reading_view reading.now)) line.now.what behind.now }
+        (other_of line.now.side (reading_view reading.now)) line.now.what following.now }
 {
     let own = reading.end(line.side);
     let other = reading.other(line.side);
@@ -28,12 +35,12 @@ fn line_test(law: Law, schema: &Schema, reading: &Reading<'_>, line: &Line, behi
         Law::Prefix => prefix_line(schema, own, other, &line.what),
         Law::Living => living_line(schema, line.side, own, other, &line.what),
         Law::Waits => waits_line(schema, own, other, &line.what),
-        Law::Settled => settled_line(schema, line.side, own, other, &line.what, behind),
+        Law::Settled => settled_line(schema, line.side, own, other, &line.what, following),
         Law::Fallen => fallen_line(own, &line.what),
     }
 }
 
-/// The test of a law of a moment.
+/// Whether a moment obeys a law.
 #[tactic(auto, unfolding(history_reading::specs::Holds::moment_test))]
 fn moment_test(law: Law, schema: &Schema, reading: &Reading<'_>) -> bool
     requires { IsSound schema.now }
@@ -47,7 +54,7 @@ fn moment_test(law: Law, schema: &Schema, reading: &Reading<'_>) -> bool
     }
 }
 
-/// The test of a law of the moment before a line, where that is an event.
+/// Whether the moment before a line obeys a law, if the line is an event.
 fn moment_before(law: Law, schema: &Schema, reading: &Reading<'_>, what: &What) -> bool
     requires { IsSound schema.now }
     ensures { result ≡ the.moment_before law schema.now (reading_view reading.now) what.now }
@@ -55,16 +62,17 @@ fn moment_before(law: Law, schema: &Schema, reading: &Reading<'_>, what: &What) 
     is_effect(what) || moment_test(law, schema, reading)
 }
 
-/// Whether a line passes, with the moment before it, before the lines behind it.
+/// Whether a line obeys a law, with the moment before it and before the lines after it.
 #[tactic(auto, unfolding(history_reading::specs::Holds::passes))]
-fn passes(law: Law, schema: &Schema, reading: &Reading<'_>, line: &Line, behind: &[Line]) -> bool
+fn passes(law: Law, schema: &Schema, reading: &Reading<'_>, line: &Line, following: &[Line]) -> bool
     requires { IsSound schema.now }
-    ensures { result ≡ the.passes law schema.now (reading_view reading.now) line.now behind.now }
+    ensures { result ≡ the.passes law schema.now (reading_view reading.now) line.now following.now }
 {
     if !is_readable(schema, reading, line) {
         return false;
     }
-    moment_before(law, schema, reading, &line.what) && line_test(law, schema, reading, line, behind)
+    moment_before(law, schema, reading, &line.what)
+        && line_test(law, schema, reading, line, following)
 }
 
 /// Whether a law holds of lines where nothing was read before them.
@@ -98,9 +106,9 @@ fn decide(alloc: Global, law: Law, schema: &Schema, lines: &[Line]) -> Result<bo
     holds
 }
 
-/// Whether a law holds of a history (docs/laws.md). The history may be any list of lines; of one that
-/// is not readable no law holds. The only error is want of memory. Its time is at most quadratic in
-/// the lines.
+/// Returns whether a law holds of a history (docs/laws.md). The history may be any list of lines;
+/// no law holds of one that is not readable. Fails only if memory runs out. Its time is at most
+/// quadratic in the lines.
 pub fn holds(
     alloc: Global,
     law: Law,

@@ -1,14 +1,14 @@
+//! The law Waits: calls are answered, and no end waits in vain.
 ghost use Rattle.std.specs.Prelude.{◌≡◌};
 ghost use Rattle.ipdl_base.specs.Sound.{IsSound};
 ghost use Rattle.history_reading.specs.EndReadings.{end_view};
 ghost use Rattle.history_reading.specs.Readings.{reading_view};
 ghost use Rattle.history_reading.specs.Waits as the;
 
-use crate::replies::{ReplyTest, says};
-use crate::settled::own_returns;
-use crate::still::{block_each_other, is_still};
+use crate::replies::{ReplyTest, own_returns, says};
 use history_reading::{EndReading, EventKind, Reading};
 use ipdl_base::{Reason, Schema, Values, What};
+use reading_checks::{block_each_other, is_still};
 
 /// Whether the other end answered a call with these values.
 fn is_answered(
@@ -25,7 +25,7 @@ fn is_answered(
     says(schema, own, other, n, &asked)
 }
 
-/// Whether a fault comes to a call without a reply that says it.
+/// Whether a call may get a fault without a reply that states it.
 fn is_own_fault(
     schema: &Schema,
     own: &EndReading<'_>,
@@ -46,7 +46,7 @@ fn is_own_fault(
     }
 }
 
-/// Whether a call goes on with a fault that has its cause.
+/// Whether a call resumes with a fault that has its cause.
 fn is_failed(
     schema: &Schema,
     own: &EndReading<'_>,
@@ -61,21 +61,21 @@ fn is_failed(
     says(schema, own, other, n, &asked) || is_own_fault(schema, own, other, n, reason)
 }
 
-/// Whether the end of the other end is delivered in an event.
+/// Whether the end of the other side is delivered in an event.
 fn is_end_event(event: EventKind) -> bool
     ensures { result ≡ the.is_end_event event }
 {
     matches!(event, EventKind::Ends)
 }
 
-/// Whether the reply to a request of a number is delivered where it has to be.
+/// Whether the reply to a request of a number is delivered in order.
 fn is_reply_in_order(own: &EndReading<'_>, n: i32) -> bool
     ensures { result ≡ the.is_reply_in_order (end_view own.now) n }
 {
     !own.is_sync_request(n) || own.stack.awaits(n)
 }
 
-/// Whether a line is as the law demands.
+/// Whether a line obeys the law.
 pub fn waits_line(
     schema: &Schema,
     own: &EndReading<'_>,
@@ -94,9 +94,9 @@ pub fn waits_line(
     }
 }
 
-/// Whether an end to which the end of the other was delivered in its last event waits.
-fn waits_behind_end(own: &EndReading<'_>) -> bool
-    ensures { result ≡ the.waits_behind_end (end_view own.now) }
+/// Whether an end waits to which the end of the other side was delivered in its last event.
+fn waits_after_end(own: &EndReading<'_>) -> bool
+    ensures { result ≡ the.waits_after_end (end_view own.now) }
 {
     is_end_event(own.event) && own.stack.has_unanswered()
 }
@@ -116,21 +116,21 @@ fn waits_while_still(schema: &Schema, reading: &Reading<'_>) -> bool
     some_waits(reading) && is_still(schema, reading)
 }
 
-/// Whether some end waits behind the end of the other.
-fn some_waits_behind_end(reading: &Reading<'_>) -> bool
-    ensures { result ≡ the.some_waits_behind_end (reading_view reading.now) }
+/// Whether some end waits after the end of the other side.
+fn some_waits_after_end(reading: &Reading<'_>) -> bool
+    ensures { result ≡ the.some_waits_after_end (reading_view reading.now) }
 {
-    waits_behind_end(&reading.parent) || waits_behind_end(&reading.child)
+    waits_after_end(&reading.parent) || waits_after_end(&reading.child)
 }
 
-/// Whether what is read at a moment is as the law demands.
+/// Whether a moment obeys the law.
 pub fn waits_moment(schema: &Schema, reading: &Reading<'_>) -> bool
     requires { IsSound schema.now }
     ensures { result ≡ the.waits_moment schema.now (reading_view reading.now) }
 {
     if block_each_other(schema, reading) {
         false
-    } else if some_waits_behind_end(reading) {
+    } else if some_waits_after_end(reading) {
         false
     } else {
         !waits_while_still(schema, reading)

@@ -1,4 +1,4 @@
--- Lines one after the other: what is read of an end and what it said, side by side; and tests of each line.
+-- Lines one after the other: what is read of an end and what it printed, side by side; and tests of each line.
 use Rattle.std.proofs.Common.{◌≡◌, ℕ, Bool, true, false, not, ◌&&◌, if◌then◌else◌, IsTrue, List, [], ◌∷◌, ◌++◌, fold, refl, sym, ap, subst, ◌∙◌, append_assoc}
 use Rattle.std.proofs.lemmas.Bool.{and_parts, and_from}
 use Rattle.std.proofs.lemmas.List.{append-nil}
@@ -22,7 +22,7 @@ fold-more schema (x ∷ xs) ys r = fold-more schema xs ys (after schema r x)
 pub read-more : (schema : Schema) (before : List Line) (line : Line) → read schema (before ++ line ∷ []) ≡ after schema (read schema before) line
 read-more schema before line = fold-more schema before (line ∷ []) opening_reading
 
--- A property of what is read of an end and of what it said, which holds at first and goes on from line to line
+-- A property of what is read of an end and of what it printed, which is true at first and kept from line to line
 
 more-at : (schema : Schema) (P : EndReading → List What → Type 0) → ((place : ℕ) (own : EndReading) (said : List What) (w : What) → P own said → P (after_what schema place w own) (said ++ w ∷ []))
     → (end s : Side) (w : What) (r : Reading) (said : List What) → P (end_reading_of end r) said → P (end_reading_of end (after_at schema s w r)) (add said (said_in end (line_of s w)))
@@ -53,32 +53,32 @@ pub along : (schema : Schema) (P : EndReading → List What → Type 0) → P op
     → (end : Side) (lines : List Line) → P (end_reading_of end (read schema lines)) (said_by end lines)
 along schema P first next end lines = from schema P next end [] lines (opens schema P end first)
 
--- A test of each line is one of each place
+-- A test of each line is a test of each place
 
 pub each-from : (test : List Line → Line → List Line → Bool) (before lines : List Line) → IsTrue (each_line test before lines)
-    → (front : List Line) (line : Line) (behind : List Line) → lines ≡ front ++ line ∷ behind → IsTrue (test (before ++ front) line behind)
-each-from test before lines h [] line behind e =
-    let k : IsTrue (each_line test before (line ∷ behind)) = subst (λ (ls : List Line). IsTrue (each_line test before ls)) e h in
-    subst (λ (b : List Line). IsTrue (test b line behind)) (sym (append-nil before)) ((and_parts (test before line behind) (each_line test (before ++ line ∷ []) behind) k).0)
-each-from test before lines h (f ∷ front) line behind e =
-    let k : IsTrue (each_line test before (f ∷ (front ++ line ∷ behind))) = subst (λ (ls : List Line). IsTrue (each_line test before ls)) e h in
-    subst (λ (b : List Line). IsTrue (test b line behind)) (append_assoc before (f ∷ []) front)
-    (each-from test (before ++ f ∷ []) (front ++ line ∷ behind) ((and_parts (test before f (front ++ line ∷ behind)) (each_line test (before ++ f ∷ []) (front ++ line ∷ behind)) k).1) front line behind refl)
+    → (front : List Line) (line : Line) (following : List Line) → lines ≡ front ++ line ∷ following → IsTrue (test (before ++ front) line following)
+each-from test before lines h [] line following e =
+    let k : IsTrue (each_line test before (line ∷ following)) = subst (λ (ls : List Line). IsTrue (each_line test before ls)) e h in
+    subst (λ (b : List Line). IsTrue (test b line following)) (sym (append-nil before)) ((and_parts (test before line following) (each_line test (before ++ line ∷ []) following) k).0)
+each-from test before lines h (f ∷ front) line following e =
+    let k : IsTrue (each_line test before (f ∷ (front ++ line ∷ following))) = subst (λ (ls : List Line). IsTrue (each_line test before ls)) e h in
+    subst (λ (b : List Line). IsTrue (test b line following)) (append_assoc before (f ∷ []) front)
+    (each-from test (before ++ f ∷ []) (front ++ line ∷ following) ((and_parts (test before f (front ++ line ∷ following)) (each_line test (before ++ f ∷ []) (front ++ line ∷ following)) k).1) front line following refl)
 
 pub each-to : (test : List Line → Line → List Line → Bool) (before lines : List Line)
-    → ((front : List Line) (line : Line) (behind : List Line) → lines ≡ front ++ line ∷ behind → IsTrue (test (before ++ front) line behind)) → IsTrue (each_line test before lines)
+    → ((front : List Line) (line : Line) (following : List Line) → lines ≡ front ++ line ∷ following → IsTrue (test (before ++ front) line following)) → IsTrue (each_line test before lines)
 each-to test before [] h = refl
 each-to test before (line ∷ lines) h =
     and_from (test before line lines) (each_line test (before ++ line ∷ []) lines)
     (subst (λ (b : List Line). IsTrue (test b line lines)) (append-nil before) (h [] line lines refl))
-    (each-to test (before ++ line ∷ []) lines (λ front l behind e. subst (λ (b : List Line). IsTrue (test b l behind)) (sym (append_assoc before (line ∷ []) front)) (h (line ∷ front) l behind (ap (λ (ls : List Line). line ∷ ls) e))))
+    (each-to test (before ++ line ∷ []) lines (λ front l following e. subst (λ (b : List Line). IsTrue (test b l following)) (sym (append_assoc before (line ∷ []) front)) (h (line ∷ front) l following (ap (λ (ls : List Line). line ∷ ls) e))))
 
--- A law holds of a readable list where each line passes its test, and each moment
+-- A law holds of a readable list if each line passes its test, and each moment
 
 pub record Passes (law : Law) (schema : Schema) (lines : List Line) : Type 0 where
-  pub places : (before : List Line) (line : Line) (behind : List Line) → lines ≡ before ++ line ∷ behind
-      → IsTrue (line_test law schema line.side (end_reading_of line.side (read schema before)) (other_of line.side (read schema before)) line.what behind)
-  pub moments : (before behind : List Line) → lines ≡ before ++ behind → IsTrue (is_moment behind) → IsTrue (moment_test law schema (read schema before))
+  pub places : (before : List Line) (line : Line) (following : List Line) → lines ≡ before ++ line ∷ following
+      → IsTrue (line_test law schema line.side (end_reading_of line.side (read schema before)) (other_of line.side (read schema before)) line.what following)
+  pub moments : (before following : List Line) → lines ≡ before ++ following → IsTrue (is_moment following) → IsTrue (moment_test law schema (read schema before))
 
 three : (a b c : Bool) → IsTrue (a && (b && c)) → IsTrue b × IsTrue c
 three a b c h = and_parts b c ((and_parts a (b && c) h).1)
@@ -94,45 +94,45 @@ moment-before false test h = h refl
 holds-parts : (law : Law) (schema : Schema) (lines : List Line) → Holds law schema lines → IsTrue (each_passes law schema lines) × IsTrue (moment_test law schema (read schema lines))
 holds-parts law schema lines h = and_parts (each_passes law schema lines) (moment_test law schema (read schema lines)) h
 
-passing : (law : Law) (schema : Schema) (lines : List Line) → Holds law schema lines → (before : List Line) (line : Line) (behind : List Line) → lines ≡ before ++ line ∷ behind → IsTrue (passes law schema (read schema before) line behind)
-passing law schema lines h = each-from (λ before line behind. passes law schema (read schema before) line behind) [] lines ((holds-parts law schema lines h).0)
+passing : (law : Law) (schema : Schema) (lines : List Line) → Holds law schema lines → (before : List Line) (line : Line) (following : List Line) → lines ≡ before ++ line ∷ following → IsTrue (passes law schema (read schema before) line following)
+passing law schema lines h = each-from (λ before line following. passes law schema (read schema before) line following) [] lines ((holds-parts law schema lines h).0)
 
-moment-holds : (law : Law) (schema : Schema) (lines : List Line) → Holds law schema lines → (before behind : List Line) → lines ≡ before ++ behind → IsTrue (is_moment behind) → IsTrue (moment_test law schema (read schema before))
+moment-holds : (law : Law) (schema : Schema) (lines : List Line) → Holds law schema lines → (before following : List Line) → lines ≡ before ++ following → IsTrue (is_moment following) → IsTrue (moment_test law schema (read schema before))
 unfolding passes
 moment-holds law schema lines h before [] e m = subst (λ (ls : List Line). IsTrue (moment_test law schema (read schema ls))) (e ∙ append-nil before) ((holds-parts law schema lines h).1)
-moment-holds law schema lines h before (line ∷ behind) e m =
+moment-holds law schema lines h before (line ∷ following) e m =
     before-moment (is_effect line.what) (moment_test law schema (read schema before))
     ((three (is_readable schema (read schema before) line) (moment_before law schema (read schema before) line.what)
-    (line_test law schema line.side (end_reading_of line.side (read schema before)) (other_of line.side (read schema before)) line.what behind) (passing law schema lines h before line behind e)).0) m
+    (line_test law schema line.side (end_reading_of line.side (read schema before)) (other_of line.side (read schema before)) line.what following) (passing law schema lines h before line following e)).0) m
 
 pub holds-passes : (law : Law) (schema : Schema) (lines : List Line) → Holds law schema lines → Passes law schema lines
 unfolding passes
 holds-passes law schema lines h = record {
-  places = λ before line behind e.
+  places = λ before line following e.
       (three (is_readable schema (read schema before) line) (moment_before law schema (read schema before) line.what)
-      (line_test law schema line.side (end_reading_of line.side (read schema before)) (other_of line.side (read schema before)) line.what behind) (passing law schema lines h before line behind e)).1;
+      (line_test law schema line.side (end_reading_of line.side (read schema before)) (other_of line.side (read schema before)) line.what following) (passing law schema lines h before line following e)).1;
   moments = moment-holds law schema lines h;
 }
 
-pub readable-places : (schema : Schema) (lines : List Line) → IsReadable schema lines → (before : List Line) (line : Line) (behind : List Line) → lines ≡ before ++ line ∷ behind → IsTrue (is_readable schema (read schema before) line)
-readable-places schema lines h = each-from (λ before line behind. is_readable schema (read schema before) line) [] lines h
+pub readable-places : (schema : Schema) (lines : List Line) → IsReadable schema lines → (before : List Line) (line : Line) (following : List Line) → lines ≡ before ++ line ∷ following → IsTrue (is_readable schema (read schema before) line)
+readable-places schema lines h = each-from (λ before line following. is_readable schema (read schema before) line) [] lines h
 
 pub passes-holds : (law : Law) (schema : Schema) (lines : List Line) → IsReadable schema lines → Passes law schema lines → Holds law schema lines
 unfolding passes
 passes-holds law schema lines r p =
     and_from (each_passes law schema lines) (moment_test law schema (read schema lines))
-    (each-to (λ before line behind. passes law schema (read schema before) line behind) [] lines (λ before line behind e.
-    and_from (is_readable schema (read schema before) line) (moment_before law schema (read schema before) line.what && line_test law schema line.side (end_reading_of line.side (read schema before)) (other_of line.side (read schema before)) line.what behind)
-    (readable-places schema lines r before line behind e)
-    (and_from (moment_before law schema (read schema before) line.what) (line_test law schema line.side (end_reading_of line.side (read schema before)) (other_of line.side (read schema before)) line.what behind)
-    (moment-before (is_effect line.what) (moment_test law schema (read schema before)) (p.moments before (line ∷ behind) e))
-    (p.places before line behind e))))
+    (each-to (λ before line following. passes law schema (read schema before) line following) [] lines (λ before line following e.
+    and_from (is_readable schema (read schema before) line) (moment_before law schema (read schema before) line.what && line_test law schema line.side (end_reading_of line.side (read schema before)) (other_of line.side (read schema before)) line.what following)
+    (readable-places schema lines r before line following e)
+    (and_from (moment_before law schema (read schema before) line.what) (line_test law schema line.side (end_reading_of line.side (read schema before)) (other_of line.side (read schema before)) line.what following)
+    (moment-before (is_effect line.what) (moment_test law schema (read schema before)) (p.moments before (line ∷ following) e))
+    (p.places before line following e))))
     (p.moments lines [] (sym (append-nil lines)) refl)
 
 -- no law holds of lines that cannot be read
 pub holds-readable : (law : Law) (schema : Schema) (lines : List Line) → Holds law schema lines → IsReadable schema lines
 unfolding passes
 holds-readable law schema lines h =
-    each-to (λ before line behind. is_readable schema (read schema before) line) [] lines (λ before line behind e.
-    (and_parts (is_readable schema (read schema before) line) (moment_before law schema (read schema before) line.what && line_test law schema line.side (end_reading_of line.side (read schema before)) (other_of line.side (read schema before)) line.what behind)
-    (passing law schema lines h before line behind e)).0)
+    each-to (λ before line following. is_readable schema (read schema before) line) [] lines (λ before line following e.
+    (and_parts (is_readable schema (read schema before) line) (moment_before law schema (read schema before) line.what && line_test law schema line.side (end_reading_of line.side (read schema before)) (other_of line.side (read schema before)) line.what following)
+    (passing law schema lines h before line following e)).0)

@@ -1,4 +1,4 @@
--- The stack that lines make, where a line answers a wait.
+-- The stack of some lines, where a line answers a wait.
 use Rattle.std.proofs.Common.{◌≡◌, ℕ, zero, suc, ◌+◌, ◌<◌, ◌==◌, ℤ, Bool, true, false, not, ◌&&◌, ◌||◌, if◌then◌else◌, List, [], ◌∷◌, ◌++◌, Option, Some, None, option_to_list, refl, sym, ap, subst, ◌∙◌, arith}
 use Rattle.std.specs.List.{cons_option, list_any}
 use Rattle.std.specs.Ordering.{int_eq}
@@ -33,7 +33,7 @@ int-flip m n = by (int_eq n m) refl
         other true e = absurd (false≢true (sym is ∙ (Decides-int_eq n m).1 (sym ((Decides-int_eq m n).0 e))))
         other false e = e
 
--- Which waits of a number stand in a stack
+-- The waits of a number in a stack
 
 is-wait : (n : ℤ) (b : Bool) (c : Call) → is_wait_for n (wait_frame b c) ≡ (b && int_eq c.seq n)
 is-wait n true c = refl
@@ -109,7 +109,7 @@ waiting-any sync end n k (x ∷ xs) d a =
         ∙ or-count (begins_wait n x.what && waits (sync n) n (said_by end xs)) (waits_left (sync n) n (said_by end xs))
         ∙ ap (λ (u : ℕ). not (u == 0)) (sym (unended-cons (begins_wait n) (ends_wait (sync n) n) (waits-apart (sync n) n) x.what (said_by end xs)))
 
--- The innermost of them is answered
+-- The innermost of these waits is answered
 
 pub answered-none : (n : ℤ) (xs : List CallFrame) → list_any (is_wait_for n) xs ≡ false → answered n xs ≡ xs
 answered-none n [] e = refl

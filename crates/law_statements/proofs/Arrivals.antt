@@ -52,7 +52,7 @@ out-cons p x xs = by (same_packet x p)
         ap (λ (t : Bool). option_map_or (remove (x ∷ xs)) (cond t (Some (1 + position_or_len (λ q. same_packet q p) xs)) None) (x ∷ xs)) (lt-more (position_or_len (λ q. same_packet q p) xs) (length xs))
         ∙ later (nat_lt (position_or_len (λ q. same_packet q p) xs) (length xs)) (position_or_len (λ q. same_packet q p) xs)
 
--- how often a packet stands in a list
+-- the number of times that a packet is in a list
 abbrev pub held : PacketKind → List PacketKind → ℕ
 held q [] = 0
 held q (x ∷ xs) = if same_packet x q then held q xs + 1 else held q xs
@@ -124,15 +124,15 @@ held-passed q (Some (arrives p)) xs = held-last q xs p
 held-passed q (Some (leaves p)) xs = held-out q p xs
 held-passed q (Some gives_up) xs = refl
 
--- The count is the most that arrives more often than it leaves, from some place on
+-- The count is the greatest number by which arrivals exceed departures, from some place on
 
 record Most (q : PacketKind) (ps : List Passing) (c : ℕ) : Type 0 where
-  bound : (front behind : List Passing) → ps ≡ front ++ behind → list_any is_giving_up behind ≡ false → count_by (is_arrival q) behind ≤ count_by (is_leaving q) behind + c
+  bound : (front following : List Passing) → ps ≡ front ++ following → list_any is_giving_up following ≡ false → count_by (is_arrival q) following ≤ count_by (is_leaving q) following + c
   front : List Passing
-  behind : List Passing
-  split : ps ≡ front ++ behind
-  kept : list_any is_giving_up behind ≡ false
-  reached : count_by (is_arrival q) behind ≡ count_by (is_leaving q) behind + c
+  following : List Passing
+  split : ps ≡ front ++ following
+  kept : list_any is_giving_up following ≡ false
+  reached : count_by (is_arrival q) following ≡ count_by (is_leaving q) following + c
 
 last-of : {A : Type 0} (xs : List A) → (xs ≡ []) ⊎ ((ys : List A) × (y : A) × (xs ≡ ys ++ y ∷ []))
 last-of [] = inl refl
@@ -144,8 +144,8 @@ last-of (x ∷ xs) = by (last-of xs)
 
 bound-step : (q : PacketKind) (ps : List Passing) (x : Passing) (c d : ℕ) → Most q ps c
     → ((b : List Passing) → is_giving_up x ≡ false → count_by (is_arrival q) b ≤ count_by (is_leaving q) b + c → count_by (is_arrival q) (b ++ x ∷ []) ≤ count_by (is_leaving q) (b ++ x ∷ []) + d)
-    → (front behind : List Passing) → ps ++ x ∷ [] ≡ front ++ behind → list_any is_giving_up behind ≡ false → count_by (is_arrival q) behind ≤ count_by (is_leaving q) behind + d
-bound-step q ps x c d m h front behind e k = by (last-of behind)
+    → (front following : List Passing) → ps ++ x ∷ [] ≡ front ++ following → list_any is_giving_up following ≡ false → count_by (is_arrival q) following ≤ count_by (is_leaving q) following + d
+bound-step q ps x c d m h front following e k = by (last-of following)
   where
     none : (n : ℕ) → 0 ≤ 0 + n
     none n = omega arith
@@ -154,11 +154,11 @@ bound-step q ps x c d m h front behind e k = by (last-of behind)
     keeps true t f = cc
     keeps false t f = (refl, f)
 
-    by : (behind ≡ []) ⊎ ((ys : List Passing) × (y : Passing) × (behind ≡ ys ++ y ∷ [])) → count_by (is_arrival q) behind ≤ count_by (is_leaving q) behind + d
+    by : (following ≡ []) ⊎ ((ys : List Passing) × (y : Passing) × (following ≡ ys ++ y ∷ [])) → count_by (is_arrival q) following ≤ count_by (is_leaving q) following + d
     by (inl is) = subst (λ (b : List Passing). count_by (is_arrival q) b ≤ count_by (is_leaving q) b + d) (sym is) (none d)
     by (inr r) =
         let same : (ps ≡ front ++ r.0) × (x ≡ r.1) = same_from_push ps (front ++ r.0) x r.1 (e ∙ ap (λ (b : List Passing). front ++ b) r.2 ∙ sym (append_assoc front r.0 (r.1 ∷ []))) in
-        let whole : behind ≡ r.0 ++ x ∷ [] = r.2 ∙ ap (λ (y : Passing). r.0 ++ y ∷ []) (sym same.1) in
+        let whole : following ≡ r.0 ++ x ∷ [] = r.2 ∙ ap (λ (y : Passing). r.0 ++ y ∷ []) (sym same.1) in
         let kept : (is_giving_up x ≡ false) × (list_any is_giving_up r.0 ≡ false) = keeps (is_giving_up x) (list_any is_giving_up r.0) (sym (any-add is_giving_up r.0 x) ∙ ap (list_any is_giving_up) (sym whole) ∙ k) in
         subst (λ (b : List Passing). count_by (is_arrival q) b ≤ count_by (is_leaving q) b + d) (sym whole) (h r.0 kept.0 (m.bound front r.0 same.0 kept.1))
 
@@ -168,25 +168,25 @@ counts-more : (q : PacketKind) (b : List Passing) (x : Passing) (d : ℕ)
 counts-more q b x d h = subst (λ (n : ℕ). n ≤ count_by (is_leaving q) (b ++ x ∷ []) + d) (sym (count-add (is_arrival q) b x))
     (subst (λ (n : ℕ). (if is_arrival q x then count_by (is_arrival q) b + 1 else count_by (is_arrival q) b) ≤ n + d) (sym (count-add (is_leaving q) b x)) h)
 
-behind-more : (q : PacketKind) (ps : List Passing) (x : Passing) (c d : ℕ) → Most q ps c → is_giving_up x ≡ false
-    → ((front behind : List Passing) → ps ++ x ∷ [] ≡ front ++ behind → list_any is_giving_up behind ≡ false → count_by (is_arrival q) behind ≤ count_by (is_leaving q) behind + d)
+following-more : (q : PacketKind) (ps : List Passing) (x : Passing) (c d : ℕ) → Most q ps c → is_giving_up x ≡ false
+    → ((front following : List Passing) → ps ++ x ∷ [] ≡ front ++ following → list_any is_giving_up following ≡ false → count_by (is_arrival q) following ≤ count_by (is_leaving q) following + d)
     → ((a l : ℕ) → a ≡ l + c → (if is_arrival q x then a + 1 else a) ≡ (if is_leaving q x then l + 1 else l) + d) → Most q (ps ++ x ∷ []) d
-behind-more q ps x c d m g bound h = record {
+following-more q ps x c d m g bound h = record {
   bound = bound;
   front = m.front;
-  behind = m.behind ++ x ∷ [];
-  split = ap (λ (ys : List Passing). ys ++ x ∷ []) m.split ∙ append_assoc m.front m.behind (x ∷ []);
-  kept = any-add is_giving_up m.behind x ∙ ap (λ (b : Bool). if b then true else list_any is_giving_up m.behind) g ∙ m.kept;
-  reached = count-add (is_arrival q) m.behind x ∙ h (count_by (is_arrival q) m.behind) (count_by (is_leaving q) m.behind) m.reached ∙ ap (λ (n : ℕ). n + d) (sym (count-add (is_leaving q) m.behind x));
+  following = m.following ++ x ∷ [];
+  split = ap (λ (ys : List Passing). ys ++ x ∷ []) m.split ∙ append_assoc m.front m.following (x ∷ []);
+  kept = any-add is_giving_up m.following x ∙ ap (λ (b : Bool). if b then true else list_any is_giving_up m.following) g ∙ m.kept;
+  reached = count-add (is_arrival q) m.following x ∙ h (count_by (is_arrival q) m.following) (count_by (is_leaving q) m.following) m.reached ∙ ap (λ (n : ℕ). n + d) (sym (count-add (is_leaving q) m.following x));
 }
 
-nothing-behind : (q : PacketKind) (ps : List Passing) (x : Passing) → ((front behind : List Passing) → ps ++ x ∷ [] ≡ front ++ behind → list_any is_giving_up behind ≡ false → count_by (is_arrival q) behind ≤ count_by (is_leaving q) behind + 0)
+nothing-following : (q : PacketKind) (ps : List Passing) (x : Passing) → ((front following : List Passing) → ps ++ x ∷ [] ≡ front ++ following → list_any is_giving_up following ≡ false → count_by (is_arrival q) following ≤ count_by (is_leaving q) following + 0)
     → Most q (ps ++ x ∷ []) 0
-nothing-behind q ps x bound = record { bound = bound; front = ps ++ x ∷ []; behind = []; split = sym (append-nil (ps ++ x ∷ [])); kept = refl; reached = refl }
+nothing-following q ps x bound = record { bound = bound; front = ps ++ x ∷ []; following = []; split = sym (append-nil (ps ++ x ∷ [])); kept = refl; reached = refl }
 
 arrive-more : (q : PacketKind) (ps : List Passing) (p : PacketKind) (c : ℕ) → Most q ps c → (b : Bool) → same_packet p q ≡ b → Most q (ps ++ arrives p ∷ []) (if b then c + 1 else c)
 arrive-more q ps p c m b is =
-    behind-more q ps (arrives p) c (if b then c + 1 else c) m refl
+    following-more q ps (arrives p) c (if b then c + 1 else c) m refl
     (bound-step q ps (arrives p) c (if b then c + 1 else c) m (λ ys g h. counts-more q ys (arrives p) (if b then c + 1 else c)
     (subst (λ (t : Bool). (if t then count_by (is_arrival q) ys + 1 else count_by (is_arrival q) ys) ≤ count_by (is_leaving q) ys + (if b then c + 1 else c)) (sym is) (up b (count_by (is_arrival q) ys) (count_by (is_leaving q) ys) h))))
     (λ a l e. subst (λ (t : Bool). (if t then a + 1 else a) ≡ l + (if b then c + 1 else c)) (sym is) (even b a l e))
@@ -201,17 +201,17 @@ arrive-more q ps p c m b is =
 
 leave-more : (q : PacketKind) (ps : List Passing) (p : PacketKind) (c : ℕ) → Most q ps c → (b : Bool) → same_packet p q ≡ b → Most q (ps ++ leaves p ∷ []) (if b then c - 1 else c)
 leave-more q ps p c m false is =
-    behind-more q ps (leaves p) c c m refl
+    following-more q ps (leaves p) c c m refl
     (bound-step q ps (leaves p) c c m (λ ys g h. counts-more q ys (leaves p) c (subst (λ (t : Bool). count_by (is_arrival q) ys ≤ (if t then count_by (is_leaving q) ys + 1 else count_by (is_leaving q) ys) + c) (sym is) h)))
     (λ a l e. subst (λ (t : Bool). a ≡ (if t then l + 1 else l) + c) (sym is) e)
 leave-more q ps p zero m true is =
-    nothing-behind q ps (leaves p) (bound-step q ps (leaves p) 0 0 m (λ ys g h. counts-more q ys (leaves p) 0
+    nothing-following q ps (leaves p) (bound-step q ps (leaves p) 0 0 m (λ ys g h. counts-more q ys (leaves p) 0
     (subst (λ (t : Bool). count_by (is_arrival q) ys ≤ (if t then count_by (is_leaving q) ys + 1 else count_by (is_leaving q) ys) + 0) (sym is) (down (count_by (is_arrival q) ys) (count_by (is_leaving q) ys) h))))
   where
     down : (a l : ℕ) → a ≤ l + 0 → a ≤ l + 1 + 0
     down a l h = omega (arith, h)
 leave-more q ps p (suc c) m true is =
-    behind-more q ps (leaves p) (suc c) (suc c - 1) m refl
+    following-more q ps (leaves p) (suc c) (suc c - 1) m refl
     (bound-step q ps (leaves p) (suc c) (suc c - 1) m (λ ys g h. counts-more q ys (leaves p) (suc c - 1)
     (subst (λ (t : Bool). count_by (is_arrival q) ys ≤ (if t then count_by (is_leaving q) ys + 1 else count_by (is_leaving q) ys) + (suc c - 1)) (sym is) (down (count_by (is_arrival q) ys) (count_by (is_leaving q) ys) h))))
     (λ a l e. subst (λ (t : Bool). a ≡ (if t then l + 1 else l) + (suc c - 1)) (sym is) (even a l e))
@@ -226,7 +226,7 @@ most-more : (q : PacketKind) (ps : List Passing) (o : Option Passing) (c : ℕ) 
 most-more q ps None c m = m
 most-more q ps (Some (arrives p)) c m = arrive-more q ps p c m (same_packet p q) refl
 most-more q ps (Some (leaves p)) c m = leave-more q ps p c m (same_packet p q) refl
-most-more q ps (Some gives_up) c m = nothing-behind q ps gives_up (bound-step q ps gives_up c 0 m (λ ys g h. cc))
+most-more q ps (Some gives_up) c m = nothing-following q ps gives_up (bound-step q ps gives_up c 0 m (λ ys g h. cc))
 
 -- What is read
 
@@ -254,12 +254,12 @@ arrived-more schema q place own said w p = record {
 }
 
 none-most : (q : PacketKind) → Most q [] 0
-none-most q = record { bound = none; front = []; behind = []; split = refl; kept = refl; reached = refl }
+none-most q = record { bound = none; front = []; following = []; split = refl; kept = refl; reached = refl }
   where
-    none : (front behind : List Passing) → [] ≡ front ++ behind → list_any is_giving_up behind ≡ false → count_by (is_arrival q) behind ≤ count_by (is_leaving q) behind + 0
+    none : (front following : List Passing) → [] ≡ front ++ following → list_any is_giving_up following ≡ false → count_by (is_arrival q) following ≤ count_by (is_leaving q) following + 0
     none [] [] e k = omega arith
-    none [] (x ∷ behind) e k = cc
-    none (x ∷ front) behind e k = cc
+    none [] (x ∷ following) e k = cc
+    none (x ∷ front) following e k = cc
 
 pub there : (schema : Schema) (end : Side) (lines : List Line) (q : PacketKind) → Decides (has_packet (end_reading_of end (read schema lines)).arrived q) (IsArrived schema (said_by end lines) q)
 there schema end lines q = (λ e. to ((held-any q (end_reading_of end (read schema lines)).arrived).0 e), λ t. (held-any q (end_reading_of end (read schema lines)).arrived).1 (from t))
@@ -268,7 +268,7 @@ there schema end lines q = (λ e. to ((held-any q (end_reading_of end (read sche
     most = (along schema (ArrivedRead schema q) (record { sent = record { ended = refl; made = refl; sent = refl }; most = none-most q }) (arrived-more schema q) end lines).most
 
     to : 0 < held q (end_reading_of end (read schema lines)).arrived → IsArrived schema (said_by end lines) q
-    to l = record { before = most.front; behind = most.behind; split = most.split; kept = most.kept; more = omega (arith, l, most.reached) }
+    to l = record { before = most.front; following = most.following; split = most.split; kept = most.kept; more = omega (arith, l, most.reached) }
 
     from : IsArrived schema (said_by end lines) q → 0 < held q (end_reading_of end (read schema lines)).arrived
-    from t = omega (arith, t.more, most.bound t.before t.behind t.split t.kept)
+    from t = omega (arith, t.more, most.bound t.before t.following t.split t.kept)

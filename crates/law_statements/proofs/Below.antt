@@ -1,4 +1,4 @@
--- The way from an actor to its manager, and so on, leads to those that it is below.
+-- The path from an actor to its manager, and so on, leads to the actors that it is below.
 use Rattle.std.proofs.Common.{◌≡◌, inl, inr, ℤ, Bool, true, false, ◌||◌, if◌then◌else◌, List, [], ◌∷◌, ◌++◌, reverse, refl, sym, ap, subst, ◌∙◌, append_assoc}
 use Rattle.std.specs.Bool.{Decides}
 use Rattle.std.specs.List.{list_any}

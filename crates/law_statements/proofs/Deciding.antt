@@ -1,4 +1,4 @@
--- Tests that decide what is said of parts.
+-- Tests that decide statements from tests of their parts.
 use Rattle.std.proofs.Common.{◌≡◌, ◌⊎◌, inl, inr, ℤ, Bool, true, false, not, ◌&&◌, if◌then◌else◌, IsTrue, List, [], ◌∷◌, ◌++◌, Option, Some, None, refl, sym, ap, subst, ◌∙◌}
 use Rattle.std.specs.Bool.{Decides}
 use Rattle.std.specs.Option.{option_map_or}
@@ -12,7 +12,7 @@ use Rattle.std.proofs.Common.{append_assoc}
 pub itself : (b : Bool) → Decides b (IsTrue b)
 itself b = (λ e. e, λ e. e)
 
--- two tests, of which the second decides where the first is passed
+-- two tests, the second of which decides if the first is passed
 pub both-then : {P Q : Type 0} (a b : Bool) → Decides a P → (IsTrue a → Decides b Q) → Decides (a && b) (P × Q)
 both-then a b p q = (λ e. (p.0 (and_parts a b e).0, (q (and_parts a b e).0).0 (and_parts a b e).1), λ e. and_from a b (p.1 e.0) ((q (p.1 e.0)).1 e.1))
 
@@ -40,17 +40,17 @@ found {A} (Some a) test P d = (λ e. (a, refl, (d a).0 e), λ e. by e.0 e.1 e.2)
     by : (x : A) → Some a ≡ Some x → P x → test a ≡ true
     by x is p = let k : a ≡ x = cc in subst (λ (y : A). test y ≡ true) (sym k) ((d x).1 p)
 
--- what holds at first, and behind each line where it held before it, holds at each place
-through-from : (lines : List Line) (P : List Line → Type 0) → ((before : List Line) (line : Line) (behind : List Line) → lines ≡ before ++ line ∷ behind → P before → P (before ++ line ∷ []))
-    → (front mid behind : List Line) → P front → lines ≡ front ++ (mid ++ behind) → P (front ++ mid)
-through-from lines P next front [] behind p e = subst P (sym (append-nil front)) p
-through-from lines P next front (line ∷ mid) behind p e =
+-- what is true at first, and true after each line if it was true before it, is true at each place
+through-from : (lines : List Line) (P : List Line → Type 0) → ((before : List Line) (line : Line) (following : List Line) → lines ≡ before ++ line ∷ following → P before → P (before ++ line ∷ []))
+    → (front mid following : List Line) → P front → lines ≡ front ++ (mid ++ following) → P (front ++ mid)
+through-from lines P next front [] following p e = subst P (sym (append-nil front)) p
+through-from lines P next front (line ∷ mid) following p e =
     subst P (append_assoc front (line ∷ []) mid)
-    (through-from lines P next (front ++ line ∷ []) mid behind (next front line (mid ++ behind) e p) (e ∙ sym (append_assoc front (line ∷ []) (mid ++ behind))))
+    (through-from lines P next (front ++ line ∷ []) mid following (next front line (mid ++ following) e p) (e ∙ sym (append_assoc front (line ∷ []) (mid ++ following))))
 
-pub through : (lines : List Line) (P : List Line → Type 0) → P [] → ((before : List Line) (line : Line) (behind : List Line) → lines ≡ before ++ line ∷ behind → P before → P (before ++ line ∷ []))
-    → (before behind : List Line) → lines ≡ before ++ behind → P before
-through lines P first next before behind e = through-from lines P next [] before behind first e
+pub through : (lines : List Line) (P : List Line → Type 0) → P [] → ((before : List Line) (line : Line) (following : List Line) → lines ≡ before ++ line ∷ following → P before → P (before ++ line ∷ []))
+    → (before following : List Line) → lines ≡ before ++ following → P before
+through lines P first next before following e = through-from lines P next [] before following first e
 
 -- a test that must fail first
 pub fails-then : {P : Type 0} (a b : Bool) → Decides b P → Decides (if a then false else b) ((a ≡ false) × P)

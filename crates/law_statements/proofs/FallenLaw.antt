@@ -94,24 +94,24 @@ effects-cause schema end (line ∷ effects) r e =
     effects-cause schema end effects (after schema r line) parts.1 ∙ effect-cause schema end line.side line.what r parts.0
 
 -- after an event and its effects the cause is that of the event
-pub cause-read : (schema : Schema) (lines : List Line) → IsReadable schema lines → (end : Side) (before behind : List Line) → lines ≡ before ++ behind → (o : IsOfLastEvent end before)
+pub cause-read : (schema : Schema) (lines : List Line) → IsReadable schema lines → (end : Side) (before following : List Line) → lines ≡ before ++ following → (o : IsOfLastEvent end before)
     → (end_reading_of end (read schema before)).cause ≡ cause_of schema (stack schema end o.before) o.event
-cause-read schema lines r end before behind e o =
+cause-read schema lines r end before following e o =
     ap (λ (x : Reading). (end_reading_of end x).cause) (ap (read schema) o.split ∙ fold-more schema o.before (line_of end o.event ∷ o.effects) opening_reading)
     ∙ effects-cause schema end o.effects (after schema (read schema o.before) (line_of end o.event)) o.are_effects
     ∙ ap (λ (x : EndReading). x.cause) (own-after schema end o.event (read schema o.before))
     ∙ cause-step schema (read schema o.before).lines o.event (end_reading_of end (read schema o.before))
     ∙ ap (λ (b : Bool). if b then cause_of schema (end_reading_of end (read schema o.before)).stack o.event else (end_reading_of end (read schema o.before)).cause) o.is_event
     ∙ ap (λ (st : List CallFrame). cause_of schema st o.event)
-    (stack-read schema lines r end o.before (line_of end o.event ∷ (o.effects ++ behind)) (e ∙ ap (λ (xs : List Line). xs ++ behind) o.split ∙ append_assoc o.before (line_of end o.event ∷ o.effects) behind))
+    (stack-read schema lines r end o.before (line_of end o.event ∷ (o.effects ++ following)) (e ∙ ap (λ (xs : List Line). xs ++ following) o.split ∙ append_assoc o.before (line_of end o.event ∷ o.effects) following))
 
--- Who fell after the last event
+-- The actors that fell after the last event
 
 falls-step : (schema : Schema) (place : ℕ) (w : What) (own : EndReading) → (after_what schema place w own).falls ≡ (if is_effect w then add own.falls (option_map (actor_place own.built) (id_fallen w)) else [])
 falls-step schema place what.Die own = refl
 falls-step schema place _ own = refl
 
--- one of those that fell in the event passes
+-- an actor that fell in the event passes
 abbrev fell : (ActorPlace → Bool) → Schema → Side → List Line → Bool
 fell p schema end before = list_any p (end_reading_of end (read schema before)).falls
 
@@ -141,7 +141,7 @@ all-stay p schema end (line ∷ effects) r e f =
     let parts : (is_effect line.what ≡ true) × (are_effects effects ≡ true) = and_parts (is_effect line.what) (are_effects effects) e in
     all-stay p schema end effects (after schema r line) parts.1 (fell-stays p schema end line.side line.what r parts.0 f)
 
--- an actor that falls, with nothing but effects after it, is one of them
+-- an actor that falls, followed only by effects, fell in the event
 fell-of : (p : ActorPlace → Bool) (schema : Schema) (end : Side) (before earlier effects : List Line) (id : ℤ) (why : Destroy) → before ≡ earlier ++ line_of end (what.Fall id why) ∷ effects → are_effects effects ≡ true
     → p (place_then schema end earlier id) ≡ true → fell p schema end before ≡ true
 fell-of p schema end before earlier effects id why split all is =
@@ -151,7 +151,7 @@ fell-of p schema end before earlier effects id why split all is =
     ∙ any-add p (end_reading_of end (read schema earlier)).falls (place_then schema end earlier id)
     ∙ ap (λ (b : Bool). if b then true else list_any p (end_reading_of end (read schema earlier)).falls) is)
 
--- and each of them falls so
+-- each actor that fell in the event falls so
 record Fell (p : ActorPlace → Bool) (schema : Schema) (end : Side) (before : List Line) : Type 0 where
   id : ℤ
   why : Destroy
@@ -275,7 +275,7 @@ managed ns actors id = recast (not (list_any (is_living_under ns id) actors)) (n
         none true = refl
         none false = refl
 
--- no younger one fell, where each that fell was built before
+-- no younger actor fell, if each that fell was built before
 abbrev AreBuilt : Side → List Line → Type 0
 AreBuilt end before = (id : ℤ) (why : Destroy) (earlier effects : List Line) → before ≡ earlier ++ line_of end (what.Fall id why) ∷ effects → IsTrue (was_built (built (said_by end earlier)) id)
 
@@ -312,10 +312,10 @@ oldest schema end before id o were live = (
         place-now schema end before f.earlier (line_of end (what.Fall f.id f.why) ∷ f.effects) f.id f.split (were f.id f.why f.earlier f.effects f.split) in
         absurd (h f.id f.why f.earlier f.effects f.split f.are_effects (younger-to (built (said_by end before)) f.id id now.1 live (ap test (sym now.0) ∙ f.passes)))
 
-may : (schema : Schema) (lines : List Line) → IsReadable schema lines → (end : Side) (before behind : List Line) (id : ℤ) (why : Destroy) → lines ≡ before ++ line_of end (what.Fall id why) ∷ behind → AreBuilt end before
+may : (schema : Schema) (lines : List Line) → IsReadable schema lines → (end : Side) (before following : List Line) (id : ℤ) (why : Destroy) → lines ≡ before ++ line_of end (what.Fall id why) ∷ following → AreBuilt end before
     → Decides (may_fall (end_reading_of end (read schema before)) id why) (MayFall schema end before id why)
 unfolding is_next
-may schema lines r end before behind id why e were =
+may schema lines r end before following id why e were =
     recast (may_fall own id why)
     (both-then (lives own id) (is_next own id && lets_fall own.built own.cause id why) alive (λ live.
     both (is_next own id) (lets_fall own.built own.cause id why)
@@ -326,7 +326,7 @@ may schema lines r end before behind id why e were =
     own = end_reading_of end (read schema before)
 
     o : IsOfLastEvent end before
-    o = (readable-to schema lines r).effects end (what.Fall id why) before behind e refl
+    o = (readable-to schema lines r).effects end (what.Fall id why) before following e refl
 
     now : own.built ≡ built (said_by end before)
     now = built-read schema end before
@@ -353,7 +353,7 @@ may schema lines r end before behind id why e were =
         )
       where
         here : (place : IsOfLastEvent end before) → own.cause ≡ cause_of schema (stack schema end place.before) place.event
-        here place = cause-read schema lines r end before (line_of end (what.Fall id why) ∷ behind) e place
+        here place = cause-read schema lines r end before (line_of end (what.Fall id why) ∷ following) e place
 
 builds : (schema : Schema) (end : Side) (before : List Line) → has (end_reading_of end (read schema before)).fallen (route_of (end_reading_of end (read schema before)).event) ≡ has (fallen (said_by end before)) (last_actor (said_by end before))
 builds schema end before =
@@ -381,48 +381,48 @@ moment schema end before =
 
 -- From the test to the statement, and back
 
-moment-of : (schema : Schema) (lines : List Line) → Passes law.Fallen schema lines → (end : Side) (before behind : List Line) → lines ≡ before ++ behind → IsTrue (is_moment behind) → IsTrue (fallen_moment (end_reading_of end (read schema before)))
+moment-of : (schema : Schema) (lines : List Line) → Passes law.Fallen schema lines → (end : Side) (before following : List Line) → lines ≡ before ++ following → IsTrue (is_moment following) → IsTrue (fallen_moment (end_reading_of end (read schema before)))
 unfolding moment_test
-moment-of schema lines p side.Parent before behind e m = (and_parts (fallen_moment (read schema before).parent) (fallen_moment (read schema before).child) (p.moments before behind e m)).0
-moment-of schema lines p side.Child before behind e m = (and_parts (fallen_moment (read schema before).parent) (fallen_moment (read schema before).child) (p.moments before behind e m)).1
+moment-of schema lines p side.Parent before following e m = (and_parts (fallen_moment (read schema before).parent) (fallen_moment (read schema before).child) (p.moments before following e m)).0
+moment-of schema lines p side.Child before following e m = (and_parts (fallen_moment (read schema before).parent) (fallen_moment (read schema before).child) (p.moments before following e m)).1
 
-split-again : (lines before earlier rest behind : List Line) → lines ≡ before ++ behind → before ≡ earlier ++ rest → lines ≡ earlier ++ (rest ++ behind)
-split-again lines before earlier rest behind e split = e ∙ ap (λ (xs : List Line). xs ++ behind) split ∙ append_assoc earlier rest behind
+split-again : (lines before earlier rest following : List Line) → lines ≡ before ++ following → before ≡ earlier ++ rest → lines ≡ earlier ++ (rest ++ following)
+split-again lines before earlier rest following e split = e ∙ ap (λ (xs : List Line). xs ++ following) split ∙ append_assoc earlier rest following
 
 built-of : (schema : Schema) (end : Side) (before : List Line) (id : ℤ) → IsTrue (actors.lives (said_by end before) id) → IsTrue (was_built (built (said_by end before)) id)
 built-of schema end before id live = (and_parts (was_built (built (said_by end before)) id) (not (has (fallen (said_by end before)) id)) live).0
 
 to : (schema : Schema) (lines : List Line) → IsReadable schema lines → Passes law.Fallen schema lines → Fallen schema lines
 to schema lines r p = record {
-  builds = λ end id protocol before behind e. sym (builds schema end before) ∙ not-true (has (end_reading_of end (read schema before)).fallen (route_of (end_reading_of end (read schema before)).event)) (p.places before (line_of end (what.Built id protocol)) behind e);
-  falls = λ end id why before behind e. (may schema lines r end before behind id why e (were end before (line_of end (what.Fall id why) ∷ behind) e)).0 (p.places before (line_of end (what.Fall id why)) behind e);
-  closings = λ end a before behind e m closed c. (moment schema end before).0 (moment-of schema lines p end before behind e m) closed a c;
+  builds = λ end id protocol before following e. sym (builds schema end before) ∙ not-true (has (end_reading_of end (read schema before)).fallen (route_of (end_reading_of end (read schema before)).event)) (p.places before (line_of end (what.Built id protocol)) following e);
+  falls = λ end id why before following e. (may schema lines r end before following id why e (were end before (line_of end (what.Fall id why) ∷ following) e)).0 (p.places before (line_of end (what.Fall id why)) following e);
+  closings = λ end a before following e m closed c. (moment schema end before).0 (moment-of schema lines p end before following e m) closed a c;
 }
   where
-    were : (end : Side) (before behind : List Line) → lines ≡ before ++ behind → AreBuilt end before
-    were end before behind e id why earlier effects split =
+    were : (end : Side) (before following : List Line) → lines ≡ before ++ following → AreBuilt end before
+    were end before following e id why earlier effects split =
         built-of schema end earlier id (ap (λ (live : ℤ → Bool). live id) (sym (lives-read schema end earlier))
         ∙ (and_parts (lives (end_reading_of end (read schema earlier)) id) (falls_now (end_reading_of end (read schema earlier)) id why)
-        (p.places earlier (line_of end (what.Fall id why)) (effects ++ behind) (split-again lines before earlier (line_of end (what.Fall id why) ∷ effects) behind e split))).0)
+        (p.places earlier (line_of end (what.Fall id why)) (effects ++ following) (split-again lines before earlier (line_of end (what.Fall id why) ∷ effects) following e split))).0)
 
-place : (schema : Schema) (lines : List Line) → IsReadable schema lines → Fallen schema lines → (before : List Line) (end : Side) (w : What) (behind : List Line) → lines ≡ before ++ line_of end w ∷ behind
+place : (schema : Schema) (lines : List Line) → IsReadable schema lines → Fallen schema lines → (before : List Line) (end : Side) (w : What) (following : List Line) → lines ≡ before ++ line_of end w ∷ following
     → IsTrue (fallen_line (end_reading_of end (read schema before)) w)
-place schema lines r s before end (what.Built id protocol) behind e = ap not (builds schema end before ∙ s.builds end id protocol before behind e)
-place schema lines r s before end (what.Fall id why) behind e = (may schema lines r end before behind id why e were).1 (s.falls end id why before behind e)
+place schema lines r s before end (what.Built id protocol) following e = ap not (builds schema end before ∙ s.builds end id protocol before following e)
+place schema lines r s before end (what.Fall id why) following e = (may schema lines r end before following id why e were).1 (s.falls end id why before following e)
   where
     were : AreBuilt end before
     were other reason earlier effects split =
         built-of schema end earlier other
-        (s.falls end other reason earlier (effects ++ line_of end (what.Fall id why) ∷ behind) (split-again lines before earlier (line_of end (what.Fall other reason) ∷ effects) (line_of end (what.Fall id why) ∷ behind) e split)).alive
-place schema lines r s before end _ behind e = refl
+        (s.falls end other reason earlier (effects ++ line_of end (what.Fall id why) ∷ following) (split-again lines before earlier (line_of end (what.Fall other reason) ∷ effects) (line_of end (what.Fall id why) ∷ following) e split)).alive
+place schema lines r s before end _ following e = refl
 
 back : (schema : Schema) (lines : List Line) → IsReadable schema lines → Fallen schema lines → Passes law.Fallen schema lines
 unfolding moment_test
 back schema lines r s = record {
-  places = λ before line behind e. place schema lines r s before line.side line.what behind e;
-  moments = λ before behind e m.
+  places = λ before line following e. place schema lines r s before line.side line.what following e;
+  moments = λ before following e m.
       and_from (fallen_moment (read schema before).parent) (fallen_moment (read schema before).child)
-      ((moment schema side.Parent before).1 (λ closed a c. s.closings side.Parent a before behind e m closed c)) ((moment schema side.Child before).1 (λ closed a c. s.closings side.Child a before behind e m closed c));
+      ((moment schema side.Parent before).1 (λ closed a c. s.closings side.Parent a before following e m closed c)) ((moment schema side.Child before).1 (λ closed a c. s.closings side.Child a before following e m closed c));
 }
 
 pub fallen-to : (schema : Schema) (lines : List Line) → IsReadable schema lines → Holds law.Fallen schema lines → Fallen schema lines

@@ -1,4 +1,4 @@
--- Each list, count and mark that is read of an end is a filter or a count of what it said.
+-- Each list, count and mark that is read of an end is a filter or a count of what it printed.
 use Rattle.std.proofs.Common.{◌≡◌, ℕ, ◌+◌, ℤ, pos, Bool, true, false, not, ◌&&◌, if◌then◌else◌, List, [], ◌∷◌, ◌++◌, count_by, filter_map, Option, Some, None, refl, sym, ap, ◌∙◌}
 use Rattle.std.specs.List.{list_any}
 use Rattle.std.specs.Option.{option_map_or}
@@ -8,6 +8,7 @@ use Rattle.ipdl_base.specs.declared.line.What.{What}
 use Rattle.ipdl_base.specs.declared.line.What.TheVariants as what
 use Rattle.ipdl_base.specs.declared.schema.Schema.{Schema}
 use Rattle.ipdl_base.specs.declared.value.Values.{Values}
+use Rattle.ipdl_base.specs.Sides.{top_id}
 use Rattle.history_reading.specs.declared.parts.BuiltActor.{BuiltActor}
 use Rattle.history_reading.specs.declared.parts.EventKind.{EventKind}
 use Rattle.history_reading.specs.declared.parts.EventKind.TheVariants as event
@@ -25,7 +26,7 @@ use Rattle.law_statements.specs.Actors.{built, built_at, event_actor, fallen, id
 use Rattle.law_statements.proofs.Along.{along}
 use Rattle.law_statements.proofs.Lists.{add, any-add, count-add, filter-add, last-add, made-add}
 
--- a reply that arrives and one that answers a wait leave most alike
+-- a reply that arrives, and one that answers a wait, leave most fields unchanged
 alike : {X : Type 0} (field : EndReading → X) (b : Bool) (x y : EndReading) → field x ≡ field y → field (if b then x else y) ≡ field y
 alike field true x y e = e
 alike field false x y e = refl
@@ -34,7 +35,7 @@ pub of-reply : {X : Type 0} (field : EndReading → X) (n : ℤ) (own : EndReadi
     → field (if is_sync_request own n then answering n (delivering (seen.Reply n) own) else arriving (seen.Reply n) own) ≡ field (arriving (seen.Reply n) own)
 of-reply field n own e = alike field (is_sync_request own n) (answering n (delivering (seen.Reply n) own)) (arriving (seen.Reply n) own) e
 
--- what grows by one line as a filter does is the filter
+-- what grows by one line in the way that a filter does is the filter
 filtered : {A : Type 0} (field : EndReading → List A) (f : What → Option A) → field opening ≡ []
     → ((schema : Schema) (place : ℕ) (w : What) (own : EndReading) → field (after_what schema place w own) ≡ add (field own) (f w))
     → (schema : Schema) (end : Side) (lines : List Line) → field (end_reading_of end (read schema lines)) ≡ filter_map f (said_by end lines)
@@ -203,8 +204,8 @@ add-under x xs (Some y) = refl
 
 pub built-add : (said : List What) (w : What) → built (said ++ w ∷ []) ≡ add (built said) (built_at said w)
 built-add said w =
-    ap (λ (xs : List BuiltActor). record { id = pos 2147483647; manager = pos 0 } ∷ xs) (made-add built_at [] said w)
-    ∙ add-under (record { id = pos 2147483647; manager = pos 0 }) (made_of built_at [] said) (built_at said w)
+    ap (λ (xs : List BuiltActor). record { id = top_id; manager = pos 0 } ∷ xs) (made-add built_at [] said w)
+    ∙ add-under (record { id = top_id; manager = pos 0 }) (made_of built_at [] said) (built_at said w)
 
 pub built-more : (schema : Schema) (place : ℕ) (own : EndReading) (said : List What) (w : What) → BuiltRead own said → BuiltRead (after_what schema place w own) (said ++ w ∷ [])
 built-more schema place own said w p = record {

@@ -1,11 +1,11 @@
--- Lists that grow at their end: what filters, counts and tests of them become.
+-- Lists that grow at their end: what becomes of filters, counts and tests of them.
 use Rattle.std.proofs.Common.{◌≡◌, ℕ, ◌+◌, Bool, true, false, if◌then◌else◌, ◌||◌, List, [], ◌∷◌, ◌++◌, reverse, fold, find, filter_map, count_by, Option, Some, None, refl, sym, ap, ◌∙◌, arith, append_assoc}
 use Rattle.std.specs.List.{cons_option, list_any}
 use Rattle.std.proofs.lemmas.List.{append-nil, reverse-append}
 use Rattle.ipdl_base.specs.declared.line.What.{What}
 use Rattle.law_statements.specs.Said.{made_of}
 
--- one more at the end, where there is one
+-- one more element at the end, if there is one
 abbrev pub add : {A : Type 0} → List A → Option A → List A
 add xs None = xs
 add xs (Some x) = xs ++ x ∷ []

@@ -20,12 +20,13 @@ use Rattle.history_reading.specs.declared.parts.EventKind.TheVariants as event
 use Rattle.history_reading.specs.EndReading.{EndReading, lives, was_built}
 use Rattle.history_reading.specs.Holds.{Holds, IsReadable, moment_test}
 use Rattle.history_reading.specs.Living as test
-use Rattle.history_reading.specs.Living.{event_makes, is_built_right, is_dropped_for, is_first_missing, is_made, is_missing_in, is_taken_alive, living_line, other_side, request_makes}
+use Rattle.ipdl_base.specs.Sides.{other}
+use Rattle.history_reading.specs.Living.{event_makes, is_built_right, is_dropped_for, is_first_missing, is_made, is_missing_in, is_taken_alive, living_line, request_makes}
 use Rattle.history_reading.specs.Nulled.{all_live, missing}
 use Rattle.history_reading.specs.Numbers.{id_of}
 use Rattle.history_reading.specs.Reading.{end_reading_of, read}
 use Rattle.history_reading.specs.SentPacket.{Request, SentPacket, request_of}
-use Rattle.law_statements.specs.Said.{last_event, line_of, other_end, said_by}
+use Rattle.law_statements.specs.Said.{last_event, line_of, said_by}
 use Rattle.law_statements.specs.Packets.{sent}
 use Rattle.law_statements.specs.Actors as actors
 use Rattle.law_statements.specs.Actors.{built, made_by, made_id, made_in}
@@ -47,26 +48,26 @@ taken schema end before route number values =
     (both (actors.lives (said_by end before) route) (all_live schema (actors.lives (said_by end before)) (params_of schema number) values) (itself (actors.lives (said_by end before) route)) (itself (all_live schema (actors.lives (said_by end before)) (params_of schema number) values)))
 
 first-missing : (schema : Schema) (end : Side) (before : List Line) (n id : ℤ)
-    → Decides (is_first_missing schema (end_reading_of end (read schema before)) (end_reading_of (other_end end) (read schema before)) n id) (IsFirstMissing schema end before n id)
+    → Decides (is_first_missing schema (end_reading_of end (read schema before)) (end_reading_of (other end) (read schema before)) n id) (IsFirstMissing schema end before n id)
 first-missing schema end before n id =
-    subst (λ (live : ℤ → Bool). Decides (option_map_or (λ r. option_map_or (λ first. int_eq first id) (missing schema live (params_of schema r.number) r.values) false) (request_of (end_reading_of (other_end end) (read schema before)).sent n) false) (IsFirstMissing schema end before n id))
+    subst (λ (live : ℤ → Bool). Decides (option_map_or (λ r. option_map_or (λ first. int_eq first id) (missing schema live (params_of schema r.number) r.values) false) (request_of (end_reading_of (other end) (read schema before)).sent n) false) (IsFirstMissing schema end before n id))
     (sym (lives-read schema end before))
     (subst (λ (ps : List SentPacket). Decides (option_map_or (λ r. option_map_or (λ first. int_eq first id) (missing schema (actors.lives (said_by end before)) (params_of schema r.number) r.values) false) (request_of ps n) false) (IsFirstMissing schema end before n id))
-    (sym (sent-read schema (other_end end) before))
-    (found (request_of (sent schema (said_by (other_end end) before)) n) (λ r. option_map_or (λ first. int_eq first id) (missing schema (actors.lives (said_by end before)) (params_of schema r.number) r.values) false)
+    (sym (sent-read schema (other end) before))
+    (found (request_of (sent schema (said_by (other end) before)) n) (λ r. option_map_or (λ first. int_eq first id) (missing schema (actors.lives (said_by end before)) (params_of schema r.number) r.values) false)
     (λ r. missing schema (actors.lives (said_by end before)) (params_of schema r.number) r.values ≡ Some id) (λ r. is-this (missing schema (actors.lives (said_by end before)) (params_of schema r.number) r.values) id)))
 
 dropped : (schema : Schema) (end : Side) (before : List Line) (n route id : ℤ)
-    → Decides (is_dropped_for schema (end_reading_of end (read schema before)) (end_reading_of (other_end end) (read schema before)) n route id)
+    → Decides (is_dropped_for schema (end_reading_of end (read schema before)) (end_reading_of (other end) (read schema before)) n route id)
     ((actors.lives (said_by end before) id ≡ false) × ((id ≡ route) ⊎ (IsTrue (actors.lives (said_by end before) route) × IsFirstMissing schema end before n id)))
 dropped schema end before n route id =
-    subst (λ (b : Bool). Decides (if b then false else (if int_eq id route then true else lives (end_reading_of end (read schema before)) route && is_first_missing schema (end_reading_of end (read schema before)) (end_reading_of (other_end end) (read schema before)) n id))
+    subst (λ (b : Bool). Decides (if b then false else (if int_eq id route then true else lives (end_reading_of end (read schema before)) route && is_first_missing schema (end_reading_of end (read schema before)) (end_reading_of (other end) (read schema before)) n id))
     ((actors.lives (said_by end before) id ≡ false) × ((id ≡ route) ⊎ (IsTrue (actors.lives (said_by end before) route) × IsFirstMissing schema end before n id)))) (sym (live-read schema end before id))
-    (subst (λ (b : Bool). Decides (if actors.lives (said_by end before) id then false else (if int_eq id route then true else b && is_first_missing schema (end_reading_of end (read schema before)) (end_reading_of (other_end end) (read schema before)) n id))
+    (subst (λ (b : Bool). Decides (if actors.lives (said_by end before) id then false else (if int_eq id route then true else b && is_first_missing schema (end_reading_of end (read schema before)) (end_reading_of (other end) (read schema before)) n id))
     ((actors.lives (said_by end before) id ≡ false) × ((id ≡ route) ⊎ (IsTrue (actors.lives (said_by end before) route) × IsFirstMissing schema end before n id)))) (sym (live-read schema end before route))
-    (fails-then (actors.lives (said_by end before) id) (if int_eq id route then true else actors.lives (said_by end before) route && is_first_missing schema (end_reading_of end (read schema before)) (end_reading_of (other_end end) (read schema before)) n id)
-    (either (int_eq id route) (actors.lives (said_by end before) route && is_first_missing schema (end_reading_of end (read schema before)) (end_reading_of (other_end end) (read schema before)) n id) (Decides-int_eq id route)
-    (both (actors.lives (said_by end before) route) (is_first_missing schema (end_reading_of end (read schema before)) (end_reading_of (other_end end) (read schema before)) n id) (itself (actors.lives (said_by end before) route)) (first-missing schema end before n id)))))
+    (fails-then (actors.lives (said_by end before) id) (if int_eq id route then true else actors.lives (said_by end before) route && is_first_missing schema (end_reading_of end (read schema before)) (end_reading_of (other end) (read schema before)) n id)
+    (either (int_eq id route) (actors.lives (said_by end before) route && is_first_missing schema (end_reading_of end (read schema before)) (end_reading_of (other end) (read schema before)) n id) (Decides-int_eq id route)
+    (both (actors.lives (said_by end before) route) (is_first_missing schema (end_reading_of end (read schema before)) (end_reading_of (other end) (read schema before)) n id) (itself (actors.lives (said_by end before) route)) (first-missing schema end before n id)))))
 
 -- Actors that are made
 
@@ -107,71 +108,65 @@ request-makes : (sender : Side) (o : Option Request) (id : ℤ) → Decides (not
 request-makes sender None id = none-made id
 request-makes sender (Some r) id = one-made sender r id (r.made == 0) refl
 
-side-same : (end : Side) → other_side end ≡ other_end end
-side-same side.Parent = refl
-side-same side.Child = refl
-
 by-own : (schema : Schema) (end : Side) (before : List Line) (n id : ℤ) → Decides (not (int_eq id (pos 0)) && int_eq (request_makes end (end_reading_of end (read schema before)) n) id) (made_by schema end before n ≡ Some id)
 by-own schema end before n id =
     subst (λ (ps : List SentPacket). Decides (not (int_eq id (pos 0)) && int_eq (option_map_or (test.made_id end) (request_of ps n) (pos 0)) id) (made_by schema end before n ≡ Some id)) (sym (sent-read schema end before))
     (request-makes end (request_of (sent schema (said_by end before)) n) id)
 
 event-made : (schema : Schema) (end : Side) (before : List Line) (w : What) (id : ℤ)
-    → Decides (not (int_eq id (pos 0)) && int_eq (event_makes end (end_reading_of end (read schema before)) (end_reading_of (other_end end) (read schema before)) (kind_of w)) id) (made_in schema end before w ≡ Some id)
+    → Decides (not (int_eq id (pos 0)) && int_eq (event_makes end (end_reading_of end (read schema before)) (end_reading_of (other end) (read schema before)) (kind_of w)) id) (made_in schema end before w ≡ Some id)
 event-made schema end before (what.Send n route number values) id = by-own schema end before n id
 event-made schema end before (what.Call n transaction route number values) id = by-own schema end before n id
-event-made schema end before (what.Take n route number values) id =
-    subst (λ (s : Side). Decides (not (int_eq id (pos 0)) && int_eq (request_makes s (end_reading_of (other_end end) (read schema before)) n) id) (made_by schema (other_end end) before n ≡ Some id)) (sym (side-same end))
-    (by-own schema (other_end end) before n id)
+event-made schema end before (what.Take n route number values) id = by-own schema (other end) before n id
 event-made schema end before _ id = none-made id
 
 made : (schema : Schema) (end : Side) (before : List Line) (o : Option What) (id : ℤ)
-    → Decides (not (int_eq id (pos 0)) && int_eq (event_makes end (end_reading_of end (read schema before)) (end_reading_of (other_end end) (read schema before)) (option_map_or kind_of o event.Other)) id)
+    → Decides (not (int_eq id (pos 0)) && int_eq (event_makes end (end_reading_of end (read schema before)) (end_reading_of (other end) (read schema before)) (option_map_or kind_of o event.Other)) id)
     (option_and_then (made_in schema end before) o ≡ Some id)
 made schema end before None id = none-made id
 made schema end before (Some w) id = event-made schema end before w id
 
 builds : (schema : Schema) (end : Side) (before : List Line) (id : ℤ)
-    → Decides (is_built_right end (end_reading_of end (read schema before)) (end_reading_of (other_end end) (read schema before)) id)
+    → Decides (is_built_right end (end_reading_of end (read schema before)) (end_reading_of (other end) (read schema before)) id)
     ((was_built (built (said_by end before)) id ≡ false) × (option_and_then (made_in schema end before) (last_event (said_by end before)) ≡ Some id))
 builds schema end before id =
-    subst (λ (xs : List BuiltActor). Decides (not (was_built xs id) && is_made end (end_reading_of end (read schema before)) (end_reading_of (other_end end) (read schema before)) id)
+    subst (λ (xs : List BuiltActor). Decides (not (was_built xs id) && is_made end (end_reading_of end (read schema before)) (end_reading_of (other end) (read schema before)) id)
     ((was_built (built (said_by end before)) id ≡ false) × (option_and_then (made_in schema end before) (last_event (said_by end before)) ≡ Some id))) (sym (built-read schema end before))
-    (both (not (was_built (built (said_by end before)) id)) (is_made end (end_reading_of end (read schema before)) (end_reading_of (other_end end) (read schema before)) id) (untrue (was_built (built (said_by end before)) id))
-    (subst (λ (k : EventKind). Decides (not (int_eq id (pos 0)) && int_eq (event_makes end (end_reading_of end (read schema before)) (end_reading_of (other_end end) (read schema before)) k) id)
+    (both (not (was_built (built (said_by end before)) id)) (is_made end (end_reading_of end (read schema before)) (end_reading_of (other end) (read schema before)) id) (untrue (was_built (built (said_by end before)) id))
+    (subst (λ (k : EventKind). Decides (not (int_eq id (pos 0)) && int_eq (event_makes end (end_reading_of end (read schema before)) (end_reading_of (other end) (read schema before)) k) id)
     (option_and_then (made_in schema end before) (last_event (said_by end before)) ≡ Some id)) (sym (event-read schema end before))
     (made schema end before (last_event (said_by end before)) id)))
 
 -- From the test to the statement, and back
 
-tested : (schema : Schema) (lines : List Line) → Passes law.Living schema lines → (before : List Line) (end : Side) (w : What) (behind : List Line) → lines ≡ before ++ line_of end w ∷ behind
-    → IsTrue (living_line schema end (end_reading_of end (read schema before)) (end_reading_of (other_end end) (read schema before)) w)
-tested schema lines p before end w behind e =
-    subst (λ (o : EndReading). IsTrue (living_line schema end (end_reading_of end (read schema before)) o w)) (other-read end (read schema before)) (p.places before (line_of end w) behind e)
+tested : (schema : Schema) (lines : List Line) → Passes law.Living schema lines → (before : List Line) (end : Side) (w : What) (following : List Line) → lines ≡ before ++ line_of end w ∷ following
+    → IsTrue (living_line schema end (end_reading_of end (read schema before)) (end_reading_of (other end) (read schema before)) w)
+tested schema lines p before end w following e =
+    subst (λ (o : EndReading). IsTrue (living_line schema end (end_reading_of end (read schema before)) o w)) (other-read end (read schema before)) (p.places before (line_of end w) following e)
 
 to : (schema : Schema) (lines : List Line) → Passes law.Living schema lines → Living schema lines
 to schema lines p = record {
-  sends = λ end n route number values before behind e. sym (live-read schema end before route) ∙ tested schema lines p before end (what.Send n route number values) behind e;
-  calls = λ end n transaction route number values before behind e. sym (live-read schema end before route) ∙ tested schema lines p before end (what.Call n transaction route number values) behind e;
-  takes = λ end n route number values before behind e. (taken schema end before route number values).0 (tested schema lines p before end (what.Take n route number values) behind e);
-  drops = λ end n route number id before behind e. (dropped schema end before n route id).0 (tested schema lines p before end (what.Drop n route number id) behind e);
-  builds = λ end id protocol before behind e. (builds schema end before id).0 (tested schema lines p before end (what.Built id protocol) behind e);
+  sends = λ end n route number values before following e. sym (live-read schema end before route) ∙ tested schema lines p before end (what.Send n route number values) following e;
+  calls = λ end n transaction route number values before following e. sym (live-read schema end before route) ∙ tested schema lines p before end (what.Call n transaction route number values) following e;
+  takes = λ end n route number values before following e. (taken schema end before route number values).0 (tested schema lines p before end (what.Take n route number values) following e);
+  drops = λ end n route number id before following e. (dropped schema end before n route id).0 (tested schema lines p before end (what.Drop n route number id) following e);
+  builds = λ end id protocol before following e. (builds schema end before id).0 (tested schema lines p before end (what.Built id protocol) following e);
 }
 
-place : (schema : Schema) (lines : List Line) → Living schema lines → (before : List Line) (end : Side) (w : What) (behind : List Line) → lines ≡ before ++ line_of end w ∷ behind
-    → IsTrue (living_line schema end (end_reading_of end (read schema before)) (end_reading_of (other_end end) (read schema before)) w)
-place schema lines s before end (what.Send n route number values) behind e = live-read schema end before route ∙ s.sends end n route number values before behind e
-place schema lines s before end (what.Call n transaction route number values) behind e = live-read schema end before route ∙ s.calls end n transaction route number values before behind e
-place schema lines s before end (what.Take n route number values) behind e = (taken schema end before route number values).1 (s.takes end n route number values before behind e)
-place schema lines s before end (what.Drop n route number id) behind e = (dropped schema end before n route id).1 (s.drops end n route number id before behind e)
-place schema lines s before end (what.Built id protocol) behind e = (builds schema end before id).1 (s.builds end id protocol before behind e)
-place schema lines s before end _ behind e = refl
+place : (schema : Schema) (lines : List Line) → Living schema lines → (before : List Line) (end : Side) (w : What) (following : List Line) → lines ≡ before ++ line_of end w ∷ following
+    → IsTrue (living_line schema end (end_reading_of end (read schema before)) (end_reading_of (other end) (read schema before)) w)
+place schema lines s before end (what.Send n route number values) following e = live-read schema end before route ∙ s.sends end n route number values before following e
+place schema lines s before end (what.Call n transaction route number values) following e = live-read schema end before route ∙ s.calls end n transaction route number values before following e
+place schema lines s before end (what.Take n route number values) following e = (taken schema end before route number values).1 (s.takes end n route number values before following e)
+place schema lines s before end (what.Drop n route number id) following e = (dropped schema end before n route id).1 (s.drops end n route number id before following e)
+place schema lines s before end (what.Built id protocol) following e = (builds schema end before id).1 (s.builds end id protocol before following e)
+place schema lines s before end _ following e = refl
 
 back : (schema : Schema) (lines : List Line) → Living schema lines → Passes law.Living schema lines
 unfolding moment_test
 back schema lines s = record {
-  places = λ before line behind e. subst (λ (o : EndReading). IsTrue (living_line schema line.side (end_reading_of line.side (read schema before)) o line.what)) (sym (other-read line.side (read schema before))) (place schema lines s before line.side line.what behind e);
-  moments = λ before behind e m. refl;
+  places = λ before line following e. subst (λ (o : EndReading). IsTrue (living_line schema line.side (end_reading_of line.side (read schema before)) o line.what)) (sym (other-read line.side (read schema before))) (place schema lines s before line.side line.what following e);
+  moments = λ before following e m. refl;
 }
 
 pub living-to : (schema : Schema) (lines : List Line) → Holds law.Living schema lines → Living schema lines

@@ -22,10 +22,11 @@ use Rattle.history_reading.specs.Numbers.{has, has_packet}
 use Rattle.history_reading.specs.Prefix.{is_for, is_next, is_next_of, is_reply_there, is_there, prefix_line, was_sent, was_sent_with}
 use Rattle.history_reading.specs.Reading.{end_reading_of, read}
 use Rattle.history_reading.specs.SentPacket.{Request, SentPacket, packet_kind, request_of}
-use Rattle.law_statements.specs.Said.{line_of, other_end, said_by}
+use Rattle.ipdl_base.specs.Sides.{other as other_end}
+use Rattle.law_statements.specs.Said.{line_of, said_by}
 use Rattle.law_statements.specs.Packets.{delivered, delivery, gone, replaced, replies, sent, sent_at}
 use Rattle.law_statements.specs.Actors as actors
-use Rattle.law_statements.specs.Prefix.{DeliversWhatWasSent, IsFront, IsUntaken, Prefix, WasSent, WasSentWith}
+use Rattle.law_statements.specs.Prefix.{DeliversWhatWasSent, IsPrefix, IsUntaken, Prefix, WasSent, WasSentWith}
 use Rattle.law_statements.proofs.Along.{Passes, holds-passes, passes-holds}
 use Rattle.law_statements.proofs.Deciding.{recast, both, found, itself, through, untrue}
 use Rattle.law_statements.proofs.Fields.{delivered-read, gone-read, lives-read, replaced-read, replies-read, sent-read}
@@ -95,86 +96,86 @@ deliver-test schema own other what.DeliverBroken p e = ap (λ (k : PacketKind). 
 deliver-test schema own other _ p e = cc
 
 front-own : (schema : Schema) (end : Side) (before : List Line) (w : What) → IsTrue (prefix_line schema (end_reading_of end (read schema before)) (end_reading_of (other_end end) (read schema before)) w)
-    → DeliversWhatWasSent schema end before → IsFront (delivered (said_by end before ++ w ∷ [])) (map packet_kind (sent schema (said_by (other_end end) before)))
+    → DeliversWhatWasSent schema end before → IsPrefix (delivered (said_by end before ++ w ∷ [])) (map packet_kind (sent schema (said_by (other_end end) before)))
 front-own schema end before w test front =
-    subst (λ (ps : List PacketKind). IsFront ps (map packet_kind (sent schema (said_by (other_end end) before)))) (sym (filter-add delivery (said_by end before) w)) (by (delivery w) refl)
+    subst (λ (ps : List PacketKind). IsPrefix ps (map packet_kind (sent schema (said_by (other_end end) before)))) (sym (filter-add delivery (said_by end before) w)) (by (delivery w) refl)
   where
-    by : (o : Option PacketKind) → delivery w ≡ o → IsFront (add (delivered (said_by end before)) o) (map packet_kind (sent schema (said_by (other_end end) before)))
+    by : (o : Option PacketKind) → delivery w ≡ o → IsPrefix (add (delivered (said_by end before)) o) (map packet_kind (sent schema (said_by (other_end end) before)))
     by None is = front
     by (Some p) is =
         next-front (sent schema (said_by (other_end end) before)) (delivered (said_by end before)) p front
         (sym (next-read schema end before p) ∙ sym (deliver-test schema (end_reading_of end (read schema before)) (end_reading_of (other_end end) (read schema before)) w p is) ∙ test)
 
 front-other : (schema : Schema) (end : Side) (before : List Line) (w : What) → DeliversWhatWasSent schema end before
-    → IsFront (delivered (said_by end before)) (map packet_kind (sent schema (said_by (other_end end) before ++ w ∷ [])))
+    → IsPrefix (delivered (said_by end before)) (map packet_kind (sent schema (said_by (other_end end) before ++ w ∷ [])))
 front-other schema end before w front =
-    subst (λ (ps : List SentPacket). IsFront (delivered (said_by end before)) (map packet_kind ps)) (sym (made-add (sent_at schema) [] (said_by (other_end end) before) w))
+    subst (λ (ps : List SentPacket). IsPrefix (delivered (said_by end before)) (map packet_kind ps)) (sym (made-add (sent_at schema) [] (said_by (other_end end) before) w))
     (front-grows (sent schema (said_by (other_end end) before)) (delivered (said_by end before)) (sent_at schema (said_by (other_end end) before) w) front)
 
 fronts-more : (schema : Schema) (before : List Line) (s : Side) (w : What) → IsTrue (prefix_line schema (end_reading_of s (read schema before)) (end_reading_of (other_end s) (read schema before)) w)
     → ((end : Side) → DeliversWhatWasSent schema end before) → (end : Side) → DeliversWhatWasSent schema end (before ++ line_of s w ∷ [])
-fronts-more schema before side.Parent w test fronts side.Parent =
-    subst (λ (own : List What). IsFront (delivered own) (map packet_kind (sent schema (said_by side.Child (before ++ line_of side.Parent w ∷ []))))) (sym (said-own side.Parent before w))
-    (subst (λ (other : List What). IsFront (delivered (said_by side.Parent before ++ w ∷ [])) (map packet_kind (sent schema other))) (sym (said-other side.Parent before w)) (front-own schema side.Parent before w test (fronts side.Parent)))
-fronts-more schema before side.Child w test fronts side.Child =
-    subst (λ (own : List What). IsFront (delivered own) (map packet_kind (sent schema (said_by side.Parent (before ++ line_of side.Child w ∷ []))))) (sym (said-own side.Child before w))
-    (subst (λ (other : List What). IsFront (delivered (said_by side.Child before ++ w ∷ [])) (map packet_kind (sent schema other))) (sym (said-other side.Child before w)) (front-own schema side.Child before w test (fronts side.Child)))
-fronts-more schema before side.Parent w test fronts side.Child =
-    subst (λ (other : List What). IsFront (delivered (said_by side.Child (before ++ line_of side.Parent w ∷ []))) (map packet_kind (sent schema other))) (sym (said-own side.Parent before w))
-    (subst (λ (own : List What). IsFront (delivered own) (map packet_kind (sent schema (said_by side.Parent before ++ w ∷ [])))) (sym (said-other side.Parent before w)) (front-other schema side.Child before w (fronts side.Child)))
-fronts-more schema before side.Child w test fronts side.Parent =
-    subst (λ (other : List What). IsFront (delivered (said_by side.Parent (before ++ line_of side.Child w ∷ []))) (map packet_kind (sent schema other))) (sym (said-own side.Child before w))
-    (subst (λ (own : List What). IsFront (delivered own) (map packet_kind (sent schema (said_by side.Child before ++ w ∷ [])))) (sym (said-other side.Child before w)) (front-other schema side.Parent before w (fronts side.Parent)))
+fronts-more schema before side.Parent w test prefixes side.Parent =
+    subst (λ (own : List What). IsPrefix (delivered own) (map packet_kind (sent schema (said_by side.Child (before ++ line_of side.Parent w ∷ []))))) (sym (said-own side.Parent before w))
+    (subst (λ (other : List What). IsPrefix (delivered (said_by side.Parent before ++ w ∷ [])) (map packet_kind (sent schema other))) (sym (said-other side.Parent before w)) (front-own schema side.Parent before w test (prefixes side.Parent)))
+fronts-more schema before side.Child w test prefixes side.Child =
+    subst (λ (own : List What). IsPrefix (delivered own) (map packet_kind (sent schema (said_by side.Parent (before ++ line_of side.Child w ∷ []))))) (sym (said-own side.Child before w))
+    (subst (λ (other : List What). IsPrefix (delivered (said_by side.Child before ++ w ∷ [])) (map packet_kind (sent schema other))) (sym (said-other side.Child before w)) (front-own schema side.Child before w test (prefixes side.Child)))
+fronts-more schema before side.Parent w test prefixes side.Child =
+    subst (λ (other : List What). IsPrefix (delivered (said_by side.Child (before ++ line_of side.Parent w ∷ []))) (map packet_kind (sent schema other))) (sym (said-own side.Parent before w))
+    (subst (λ (own : List What). IsPrefix (delivered own) (map packet_kind (sent schema (said_by side.Parent before ++ w ∷ [])))) (sym (said-other side.Parent before w)) (front-other schema side.Child before w (prefixes side.Child)))
+fronts-more schema before side.Child w test prefixes side.Parent =
+    subst (λ (other : List What). IsPrefix (delivered (said_by side.Parent (before ++ line_of side.Child w ∷ []))) (map packet_kind (sent schema other))) (sym (said-own side.Child before w))
+    (subst (λ (own : List What). IsPrefix (delivered own) (map packet_kind (sent schema (said_by side.Child before ++ w ∷ [])))) (sym (said-other side.Child before w)) (front-other schema side.Parent before w (prefixes side.Parent)))
 
 -- From the test to the statement, and back
 
 to : (schema : Schema) (lines : List Line) → Passes law.Prefix schema lines → Prefix schema lines
 to schema lines p = record {
-  fronts = λ end before behind e.
+  prefixes = λ end before following e.
       through lines (λ front. (x : Side) → DeliversWhatWasSent schema x front) first (λ front line later is held. fronts-more schema front line.side line.what
-      (subst (λ (o : EndReading). IsTrue (prefix_line schema (end_reading_of line.side (read schema front)) o line.what)) (other-read line.side (read schema front)) (p.places front line later is)) held) before behind e end;
-  takes = λ end n route number values before behind e.
+      (subst (λ (o : EndReading). IsTrue (prefix_line schema (end_reading_of line.side (read schema front)) o line.what)) (other-read line.side (read schema front)) (p.places front line later is)) held) before following e end;
+  takes = λ end n route number values before following e.
       (both (is_there (end_reading_of end (read schema before)) n) (was_sent_with schema (end_reading_of end (read schema before)) (end_reading_of (other_end end) (read schema before)) n route number values) (waiting schema end before n) (was-with schema end before n route number values)).0
-      (subst (λ (o : EndReading). IsTrue (prefix_line schema (end_reading_of end (read schema before)) o (what.Take n route number values))) (other-read end (read schema before)) (p.places before (line_of end (what.Take n route number values)) behind e));
-  drops = λ end n route number id before behind e.
+      (subst (λ (o : EndReading). IsTrue (prefix_line schema (end_reading_of end (read schema before)) o (what.Take n route number values))) (other-read end (read schema before)) (p.places before (line_of end (what.Take n route number values)) following e));
+  drops = λ end n route number id before following e.
       (both (is_there (end_reading_of end (read schema before)) n) (was_sent (end_reading_of (other_end end) (read schema before)) n route number) (waiting schema end before n) (was schema end before n route number)).0
-      (subst (λ (o : EndReading). IsTrue (prefix_line schema (end_reading_of end (read schema before)) o (what.Drop n route number id))) (other-read end (read schema before)) (p.places before (line_of end (what.Drop n route number id)) behind e));
-  replies = λ end n before behind e. (reply-waits schema end before n).0 (p.places before (line_of end (what.TakeReply n)) behind e);
+      (subst (λ (o : EndReading). IsTrue (prefix_line schema (end_reading_of end (read schema before)) o (what.Drop n route number id))) (other-read end (read schema before)) (p.places before (line_of end (what.Drop n route number id)) following e));
+  replies = λ end n before following e. (reply-waits schema end before n).0 (p.places before (line_of end (what.TakeReply n)) following e);
 }
   where
     first : (x : Side) → DeliversWhatWasSent schema x []
     first x = (map packet_kind (sent schema (said_by (other_end x) [])), refl)
 
-delivers : (schema : Schema) (lines : List Line) → Prefix schema lines → (before : List Line) (end : Side) (w : What) (behind : List Line) (p : PacketKind) → delivery w ≡ Some p → lines ≡ before ++ line_of end w ∷ behind
+delivers : (schema : Schema) (lines : List Line) → Prefix schema lines → (before : List Line) (end : Side) (w : What) (following : List Line) (p : PacketKind) → delivery w ≡ Some p → lines ≡ before ++ line_of end w ∷ following
     → IsTrue (prefix_line schema (end_reading_of end (read schema before)) (end_reading_of (other_end end) (read schema before)) w)
-delivers schema lines s before end w behind p is e =
+delivers schema lines s before end w following p is e =
     deliver-test schema (end_reading_of end (read schema before)) (end_reading_of (other_end end) (read schema before)) w p is
     ∙ next-read schema end before p ∙ front-next (sent schema (said_by (other_end end) before)) (delivered (said_by end before)) p
-    (subst (λ (ps : List PacketKind). IsFront ps (map packet_kind (sent schema (said_by (other_end end) before)))) (filter-add delivery (said_by end before) w ∙ ap (add (delivered (said_by end before))) is)
-    (subst (λ (own : List What). IsFront (delivered own) (map packet_kind (sent schema (said_by (other_end end) before)))) (said-own end before w)
-    (subst (λ (other : List What). IsFront (delivered (said_by end (before ++ line_of end w ∷ []))) (map packet_kind (sent schema other))) (said-other end before w)
-    (s.fronts end (before ++ line_of end w ∷ []) behind (e ∙ sym (append_assoc before (line_of end w ∷ []) behind))))))
+    (subst (λ (ps : List PacketKind). IsPrefix ps (map packet_kind (sent schema (said_by (other_end end) before)))) (filter-add delivery (said_by end before) w ∙ ap (add (delivered (said_by end before))) is)
+    (subst (λ (own : List What). IsPrefix (delivered own) (map packet_kind (sent schema (said_by (other_end end) before)))) (said-own end before w)
+    (subst (λ (other : List What). IsPrefix (delivered (said_by end (before ++ line_of end w ∷ []))) (map packet_kind (sent schema other))) (said-other end before w)
+    (s.prefixes end (before ++ line_of end w ∷ []) following (e ∙ sym (append_assoc before (line_of end w ∷ []) following))))))
 
-place : (schema : Schema) (lines : List Line) → Prefix schema lines → (before : List Line) (end : Side) (w : What) (behind : List Line) → lines ≡ before ++ line_of end w ∷ behind
+place : (schema : Schema) (lines : List Line) → Prefix schema lines → (before : List Line) (end : Side) (w : What) (following : List Line) → lines ≡ before ++ line_of end w ∷ following
     → IsTrue (prefix_line schema (end_reading_of end (read schema before)) (end_reading_of (other_end end) (read schema before)) w)
-place schema lines s before end (what.DeliverRequest n) behind e = delivers schema lines s before end (what.DeliverRequest n) behind (seen.Request n) refl e
-place schema lines s before end (what.DeliverReply n) behind e = delivers schema lines s before end (what.DeliverReply n) behind (seen.Reply n) refl e
-place schema lines s before end what.DeliverGoodbye behind e = delivers schema lines s before end what.DeliverGoodbye behind seen.Goodbye refl e
-place schema lines s before end what.DeliverBroken behind e = delivers schema lines s before end what.DeliverBroken behind seen.Broken refl e
-place schema lines s before end (what.Take n route number values) behind e =
+place schema lines s before end (what.DeliverRequest n) following e = delivers schema lines s before end (what.DeliverRequest n) following (seen.Request n) refl e
+place schema lines s before end (what.DeliverReply n) following e = delivers schema lines s before end (what.DeliverReply n) following (seen.Reply n) refl e
+place schema lines s before end what.DeliverGoodbye following e = delivers schema lines s before end what.DeliverGoodbye following seen.Goodbye refl e
+place schema lines s before end what.DeliverBroken following e = delivers schema lines s before end what.DeliverBroken following seen.Broken refl e
+place schema lines s before end (what.Take n route number values) following e =
     (both (is_there (end_reading_of end (read schema before)) n) (was_sent_with schema (end_reading_of end (read schema before)) (end_reading_of (other_end end) (read schema before)) n route number values) (waiting schema end before n) (was-with schema end before n route number values)).1
-    (s.takes end n route number values before behind e)
-place schema lines s before end (what.Drop n route number id) behind e =
+    (s.takes end n route number values before following e)
+place schema lines s before end (what.Drop n route number id) following e =
     (both (is_there (end_reading_of end (read schema before)) n) (was_sent (end_reading_of (other_end end) (read schema before)) n route number) (waiting schema end before n) (was schema end before n route number)).1
-    (s.drops end n route number id before behind e)
-place schema lines s before end (what.TakeReply n) behind e = (reply-waits schema end before n).1 (s.replies end n before behind e)
-place schema lines s before end _ behind e = refl
+    (s.drops end n route number id before following e)
+place schema lines s before end (what.TakeReply n) following e = (reply-waits schema end before n).1 (s.replies end n before following e)
+place schema lines s before end _ following e = refl
 
 back : (schema : Schema) (lines : List Line) → Prefix schema lines → Passes law.Prefix schema lines
 unfolding moment_test
 back schema lines s = record {
-  places = λ before line behind e. subst (λ (o : EndReading). IsTrue (prefix_line schema (end_reading_of line.side (read schema before)) o line.what)) (sym (other-read line.side (read schema before))) (place schema lines s before line.side line.what behind e);
-  moments = λ before behind e m. refl;
+  places = λ before line following e. subst (λ (o : EndReading). IsTrue (prefix_line schema (end_reading_of line.side (read schema before)) o line.what)) (sym (other-read line.side (read schema before))) (place schema lines s before line.side line.what following e);
+  moments = λ before following e m. refl;
 }
 
 pub prefix-to : (schema : Schema) (lines : List Line) → Holds law.Prefix schema lines → Prefix schema lines

@@ -1,4 +1,4 @@
--- The test of readable lines decides what they are.
+-- The test of readable lines decides what readable lines are.
 use Rattle.std.proofs.Common.{◌≡◌, ℕ, ℤ, Bool, true, false, not, ◌&&◌, if◌then◌else◌, IsTrue, List, [], ◌∷◌, ◌++◌, fold, Option, Some, None, refl, sym, ap, ◌∙◌, append_assoc}
 use Rattle.std.specs.Bool.{Decides}
 use Rattle.std.specs.List.{list_all}
@@ -56,9 +56,9 @@ last-to schema before end e = through before (λ front. (x : Side) → (read sch
         let same : line.side ≡ x = cc in
         record { before = front; event = line.what; effects = []; split = ap (λ (s : Side). front ++ line_of s line.what ∷ []) same; is_event = ap not is; are_effects = refl }
 
-    more : (front : List Line) (line : Line) (behind : List Line) → before ≡ front ++ line ∷ behind → ((x : Side) → (read schema front).last ≡ Some x → IsOfLastEvent x front) → (x : Side) → (read schema (front ++ line ∷ [])).last ≡ Some x
+    more : (front : List Line) (line : Line) (following : List Line) → before ≡ front ++ line ∷ following → ((x : Side) → (read schema front).last ≡ Some x → IsOfLastEvent x front) → (x : Side) → (read schema (front ++ line ∷ [])).last ≡ Some x
         → IsOfLastEvent x (front ++ line ∷ [])
-    more front line behind is p x f = step front line p x (is_effect line.what) refl (sym (last-of schema line (read schema front)) ∙ ap (λ (r : Reading). r.last) (sym (read-more schema front line)) ∙ f)
+    more front line following is p x f = step front line p x (is_effect line.what) refl (sym (last-of schema line (read schema front)) ∙ ap (λ (r : Reading). r.last) (sym (read-more schema front line)) ∙ f)
 
 effects-keep : (schema : Schema) (effects : List Line) (r : Reading) → list_all (λ (l : Line). is_effect l.what) effects ≡ true → (fold (after schema) r effects).last ≡ r.last
 effects-keep schema [] r e = refl
@@ -128,46 +128,46 @@ if-effect false c e f = cc
 
 pub readable-to : (schema : Schema) (lines : List Line) → IsReadable schema lines → Readable schema lines
 readable-to schema lines r = record {
-  effects = λ end w before behind e f. last-to schema before end ((of-event end (read schema before).last).0 (if-effect (is_effect w) (is_of_event end (read schema before).last) (at before (line_of end w) behind e).0 f));
-  messages = λ end w number before behind e f. named schema (end_reading_of end (read schema before)).stack w number f (at before (line_of end w) behind e).1;
-  returns = λ end n before behind e.
-      (dispatch-on-top (stack schema end before) n).0 (ap (λ (st : List CallFrame). is_dispatch_on_top st n) (sym (stack-read schema lines r end before (line_of end (what.Return n) ∷ behind) e)) ∙ (at before (line_of end (what.Return n)) behind e).1);
-  resumes = λ end n values before behind e.
-      (answer-on-top (stack schema end before) n).0 (ap (λ (st : List CallFrame). is_answer_on_top st n) (sym (stack-read schema lines r end before (line_of end (what.ResumeOk n values) ∷ behind) e)) ∙ (at before (line_of end (what.ResumeOk n values)) behind e).1);
-  faults = λ end n why before behind e.
-      (answer-on-top (stack schema end before) n).0 (ap (λ (st : List CallFrame). is_answer_on_top st n) (sym (stack-read schema lines r end before (line_of end (what.ResumeFault n why) ∷ behind) e)) ∙ (at before (line_of end (what.ResumeFault n why)) behind e).1);
+  effects = λ end w before following e f. last-to schema before end ((of-event end (read schema before).last).0 (if-effect (is_effect w) (is_of_event end (read schema before).last) (at before (line_of end w) following e).0 f));
+  messages = λ end w number before following e f. named schema (end_reading_of end (read schema before)).stack w number f (at before (line_of end w) following e).1;
+  returns = λ end n before following e.
+      (dispatch-on-top (stack schema end before) n).0 (ap (λ (st : List CallFrame). is_dispatch_on_top st n) (sym (stack-read schema lines r end before (line_of end (what.Return n) ∷ following) e)) ∙ (at before (line_of end (what.Return n)) following e).1);
+  resumes = λ end n values before following e.
+      (answer-on-top (stack schema end before) n).0 (ap (λ (st : List CallFrame). is_answer_on_top st n) (sym (stack-read schema lines r end before (line_of end (what.ResumeOk n values) ∷ following) e)) ∙ (at before (line_of end (what.ResumeOk n values)) following e).1);
+  faults = λ end n why before following e.
+      (answer-on-top (stack schema end before) n).0 (ap (λ (st : List CallFrame). is_answer_on_top st n) (sym (stack-read schema lines r end before (line_of end (what.ResumeFault n why) ∷ following) e)) ∙ (at before (line_of end (what.ResumeFault n why)) following e).1);
 }
   where
-    at : (before : List Line) (line : Line) (behind : List Line) → lines ≡ before ++ line ∷ behind
+    at : (before : List Line) (line : Line) (following : List Line) → lines ≡ before ++ line ∷ following
         → ((if is_effect line.what then is_of_event line.side (read schema before).last else true) ≡ true) × (is_readable_what schema (end_reading_of line.side (read schema before)).stack line.what ≡ true)
-    at before line behind e = parts schema before line (readable-places schema lines r before line behind e)
+    at before line following e = parts schema before line (readable-places schema lines r before line following e)
 
--- Back: each line can be read where the stack is the one that the lines before it make
+-- The other direction: each line can be read, with the stack that the lines before it make
 
-what-from : (schema : Schema) (lines : List Line) → Readable schema lines → (before : List Line) (end : Side) (w : What) (behind : List Line) → lines ≡ before ++ line_of end w ∷ behind
+what-from : (schema : Schema) (lines : List Line) → Readable schema lines → (before : List Line) (end : Side) (w : What) (following : List Line) → lines ≡ before ++ line_of end w ∷ following
     → (end_reading_of end (read schema before)).stack ≡ stack schema end before → is_readable_what schema (end_reading_of end (read schema before)).stack w ≡ true
-what-from schema lines s before end (what.Send n route number values) behind e st = s.messages end (what.Send n route number values) number before behind e refl
-what-from schema lines s before end (what.Call n transaction route number values) behind e st = s.messages end (what.Call n transaction route number values) number before behind e refl
-what-from schema lines s before end (what.RefusedSend refusal number) behind e st = s.messages end (what.RefusedSend refusal number) number before behind e refl
-what-from schema lines s before end (what.Take n route number values) behind e st = s.messages end (what.Take n route number values) number before behind e refl
-what-from schema lines s before end (what.Drop n route number id) behind e st = s.messages end (what.Drop n route number id) number before behind e refl
-what-from schema lines s before end (what.Return n) behind e st = ap (λ (fs : List CallFrame). is_dispatch_on_top fs n) st ∙ (dispatch-on-top (stack schema end before) n).1 (s.returns end n before behind e)
-what-from schema lines s before end (what.ResumeOk n values) behind e st = ap (λ (fs : List CallFrame). is_answer_on_top fs n) st ∙ (answer-on-top (stack schema end before) n).1 (s.resumes end n values before behind e)
-what-from schema lines s before end (what.ResumeFault n why) behind e st = ap (λ (fs : List CallFrame). is_answer_on_top fs n) st ∙ (answer-on-top (stack schema end before) n).1 (s.faults end n why before behind e)
-what-from schema lines s before end _ behind e st = refl
+what-from schema lines s before end (what.Send n route number values) following e st = s.messages end (what.Send n route number values) number before following e refl
+what-from schema lines s before end (what.Call n transaction route number values) following e st = s.messages end (what.Call n transaction route number values) number before following e refl
+what-from schema lines s before end (what.RefusedSend refusal number) following e st = s.messages end (what.RefusedSend refusal number) number before following e refl
+what-from schema lines s before end (what.Take n route number values) following e st = s.messages end (what.Take n route number values) number before following e refl
+what-from schema lines s before end (what.Drop n route number id) following e st = s.messages end (what.Drop n route number id) number before following e refl
+what-from schema lines s before end (what.Return n) following e st = ap (λ (fs : List CallFrame). is_dispatch_on_top fs n) st ∙ (dispatch-on-top (stack schema end before) n).1 (s.returns end n before following e)
+what-from schema lines s before end (what.ResumeOk n values) following e st = ap (λ (fs : List CallFrame). is_answer_on_top fs n) st ∙ (answer-on-top (stack schema end before) n).1 (s.resumes end n values before following e)
+what-from schema lines s before end (what.ResumeFault n why) following e st = ap (λ (fs : List CallFrame). is_answer_on_top fs n) st ∙ (answer-on-top (stack schema end before) n).1 (s.faults end n why before following e)
+what-from schema lines s before end _ following e st = refl
 
-effect-from : (schema : Schema) (lines : List Line) → Readable schema lines → (before : List Line) (end : Side) (w : What) (behind : List Line) → lines ≡ before ++ line_of end w ∷ behind → (b : Bool) → is_effect w ≡ b
+effect-from : (schema : Schema) (lines : List Line) → Readable schema lines → (before : List Line) (end : Side) (w : What) (following : List Line) → lines ≡ before ++ line_of end w ∷ following → (b : Bool) → is_effect w ≡ b
     → (if b then is_of_event end (read schema before).last else true) ≡ true
-effect-from schema lines s before end w behind e true is = (of-event end (read schema before).last).1 (last-from schema before end (s.effects end w before behind e is))
-effect-from schema lines s before end w behind e false is = refl
+effect-from schema lines s before end w following e true is = (of-event end (read schema before).last).1 (last-from schema before end (s.effects end w before following e is))
+effect-from schema lines s before end w following e false is = refl
 
-stacks : (schema : Schema) (lines : List Line) → Readable schema lines → (before behind : List Line) → lines ≡ before ++ behind → (end : Side) → StackRead schema end before
-stacks schema lines s before behind e =
+stacks : (schema : Schema) (lines : List Line) → Readable schema lines → (before following : List Line) → lines ≡ before ++ following → (end : Side) → StackRead schema end before
+stacks schema lines s before following e =
     through lines (λ front. (end : Side) → StackRead schema end front) (opens schema)
-    (λ front line later is p. both-more schema front line.side line.what (what-from schema lines s front line.side line.what later is (p line.side).stack) p) before behind e
+    (λ front line later is p. both-more schema front line.side line.what (what-from schema lines s front line.side line.what later is (p line.side).stack) p) before following e
 
 pub readable-from : (schema : Schema) (lines : List Line) → Readable schema lines → IsReadable schema lines
 readable-from schema lines s =
-    each-to (λ before line behind. is_readable schema (read schema before) line) [] lines (λ before line behind e.
-    from-parts schema before line (effect-from schema lines s before line.side line.what behind e (is_effect line.what) refl)
-    (what-from schema lines s before line.side line.what behind e (stacks schema lines s before (line ∷ behind) e line.side).stack))
+    each-to (λ before line following. is_readable schema (read schema before) line) [] lines (λ before line following e.
+    from-parts schema before line (effect-from schema lines s before line.side line.what following e (is_effect line.what) refl)
+    (what-from schema lines s before line.side line.what following e (stacks schema lines s before (line ∷ following) e line.side).stack))

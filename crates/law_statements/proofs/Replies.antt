@@ -1,4 +1,4 @@
--- What the other end has said: tests of its replies decide which of them stand in what it has sent.
+-- What the other end has sent: tests of its replies decide which replies are among what it has sent.
 use Rattle.std.proofs.Common.{◌≡◌, ℤ, Bool, true, IsTrue, List, Contains, Any, refl, ap, subst}
 use Rattle.std.specs.Bool.{Decides}
 use Rattle.std.specs.Ordering.{int_eq}
@@ -11,7 +11,7 @@ use Rattle.history_reading.specs.SentPacket.{ReplyContent, SentPacket, request, 
 use Rattle.history_reading.specs.Waits.{is_fault, same_reason}
 use Rattle.law_statements.proofs.Deciding.{recast}
 
--- some reply to the request of a number stands there and passes
+-- some reply to the request of a number is there and passes
 abbrev pub SomeReply : (ReplyContent → Bool) → List SentPacket → ℤ → Type 0
 SomeReply test sents n = (content : ReplyContent) × Contains sents (said n content) × IsTrue (test content)
 
@@ -38,7 +38,7 @@ reason-same reason.ActorDestroyed reason.ActorDestroyed = (λ e. refl, λ e. ref
 reason-same reason.ResolverDestroyed reason.ResolverDestroyed = (λ e. refl, λ e. refl)
 reason-same _ _ = (λ e. cc, λ e. cc)
 
--- a fault, as it was said
+-- a fault, as it was sent
 pub fault-said : (r : Reason) (sents : List SentPacket) (n : ℤ) → Decides (says (is_fault r) sents n) (Contains sents (said n (fault r)))
 fault-said r sents n = recast (says (is_fault r) sents n) (reply-said (is_fault r) sents n) (λ s. by s.0 s.1 s.2) (λ c. (fault r, c, (reason-same r r).1 refl))
   where

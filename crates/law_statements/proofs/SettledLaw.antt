@@ -29,9 +29,10 @@ use Rattle.history_reading.specs.Numbers.{has}
 use Rattle.history_reading.specs.Reading.{end_reading_of, read}
 use Rattle.history_reading.specs.SentPacket.{Request, ReplyContent, SentPacket, request, said, goodbye, broken, resolved, rejected, ok, fault, request_of, says}
 use Rattle.history_reading.specs.Settled as test
-use Rattle.history_reading.specs.Settled.{all_settled, falls_next, is_cause, is_close_event, is_destroyed, is_fall_at, is_fall_of, is_rejected, is_resolved, is_settle, is_unsettled, promise_falls_next, resolves_missing, says_fallen, settled_line, settled_moment}
+use Rattle.history_reading.specs.Settled.{all_settled, falls_next, is_cause, is_close_event, is_destroyed, is_fall_at, is_fall_of, is_rejected, is_resolved, is_settle, is_unsettled, promise_falls_next, resolves_missing, reports_fallen, settled_line, settled_moment}
 use Rattle.history_reading.specs.Waits.{is_fault}
-use Rattle.law_statements.specs.Said.{is_moment, last_event, line_of, other_end, said_by}
+use Rattle.ipdl_base.specs.Sides.{other as other_end}
+use Rattle.law_statements.specs.Said.{is_moment, last_event, line_of, said_by}
 use Rattle.law_statements.specs.Packets.{has_closed, is_closing, number_settled, sent, settled}
 use Rattle.law_statements.specs.Actors as actors
 use Rattle.law_statements.specs.Settled.{FallsNext, HasCause, HasResolved, HasResolvedMissing, IsPending, Settled, is_settling}
@@ -41,7 +42,7 @@ use Rattle.law_statements.proofs.Ends.{other-read}
 use Rattle.law_statements.proofs.Fields.{event-read, kind_of, last_kind, lives-read, over-read, sent-read, settled-read}
 use Rattle.law_statements.proofs.Replies.{fault-said, reply-said}
 
--- A promise that is pending, with what else is asked of it
+-- A promise that is pending, with a further condition on it
 
 promised : (o : Option Request) (done hold : Bool) (Q : Request → Type 0) → ((r : Request) → o ≡ Some r → Decides hold (Q r))
     → Decides ((option_map_or (λ (r : Request). r.wants) o false && not done) && hold) ((r : Request) × ((o ≡ Some r) × IsTrue r.wants × (done ≡ false)) × Q r)
@@ -105,7 +106,7 @@ rejection-said sents n = recast (says is_rejected sents n) (reply-said is_reject
     to (ok vs) c t = cc
     to (fault q) c t = cc
 
--- The fall behind settlings
+-- The fall after settlings
 
 settle-same : (w : What) → is_settle w ≡ is_some (number_settled w)
 settle-same (what.Resolved n values) = refl
@@ -129,17 +130,17 @@ fall-there : (end : Side) (id : ℤ) (why : Destroy) → is_fall_at end id (line
 fall-there side.Parent id why = (Decides-int_eq id id).1 refl
 fall-there side.Child id why = (Decides-int_eq id id).1 refl
 
-next-to : (end : Side) (id : ℤ) (behind : List Line) → falls_next end id behind ≡ true → FallsNext end id behind
+next-to : (end : Side) (id : ℤ) (following : List Line) → falls_next end id following ≡ true → FallsNext end id following
 next-to end id [] e = cc
-next-to end id (line ∷ behind) e = by (is_settle line.what) refl e (λ h. next-to end id behind h)
+next-to end id (line ∷ following) e = by (is_settle line.what) refl e (λ h. next-to end id following h)
   where
-    by : (b : Bool) → is_settle line.what ≡ b → (if b then falls_next end id behind else is_fall_at end id line) ≡ true → (falls_next end id behind ≡ true → FallsNext end id behind) → FallsNext end id (line ∷ behind)
+    by : (b : Bool) → is_settle line.what ≡ b → (if b then falls_next end id following else is_fall_at end id line) ≡ true → (falls_next end id following ≡ true → FallsNext end id following) → FallsNext end id (line ∷ following)
     by true is h more =
-        let later : FallsNext end id behind = more h in
+        let later : FallsNext end id following = more h in
         (line ∷ later.0, later.1, later.2, ap (λ (ls : List Line). line ∷ ls) later.3, and_from (is_settling line) (list_all is_settling later.0) (sym (settle-same line.what) ∙ is) later.4)
     by false is h more =
         let fall : (why : Destroy) × (line_of line.side line.what ≡ line_of end (what.Fall id why)) = fall-here end id line.side line.what h in
-        ([], fall.0, behind, ap (λ (l : Line). l ∷ behind) fall.1, refl)
+        ([], fall.0, following, ap (λ (l : Line). l ∷ following) fall.1, refl)
 
 next-from : (end : Side) (id : ℤ) (settlings : List Line) (why : Destroy) (later : List Line) → IsTrue (list_all is_settling settlings) → falls_next end id (settlings ++ line_of end (what.Fall id why) ∷ later) ≡ true
 next-from end id [] why later a = fall-there end id why
@@ -147,8 +148,8 @@ next-from end id (line ∷ settlings) why later a =
     ap (λ (b : Bool). if b then falls_next end id (settlings ++ line_of end (what.Fall id why) ∷ later) else is_fall_at end id line) (settle-same line.what ∙ (and_parts (is_settling line) (list_all is_settling settlings) a).0)
     ∙ next-from end id settlings why later ((and_parts (is_settling line) (list_all is_settling settlings) a).1)
 
-pub next : (end : Side) (id : ℤ) (behind : List Line) → Decides (falls_next end id behind) (FallsNext end id behind)
-next end id behind = (next-to end id behind, λ f. ap (falls_next end id) f.3 ∙ next-from end id f.0 f.1 f.2 f.4)
+pub next : (end : Side) (id : ℤ) (following : List Line) → Decides (falls_next end id following) (FallsNext end id following)
+next end id following = (next-to end id following, λ f. ap (falls_next end id) f.3 ∙ next-from end id f.0 f.1 f.2 f.4)
 
 pub closes : (o : Option What) → is_close_event (option_map_or kind_of o event.Other) ≡ option_map_or is_closing o false
 closes None = refl
@@ -173,47 +174,47 @@ resolving schema end before n values =
         (sym (sent-read schema (other_end end) before))
         (resolved-said schema (actors.lives (said_by end before)) (returns_of schema r.number) values (end_reading_of end (read schema before)) (sent schema (said_by (other_end end) before)) n (lives-read schema end before)))
 
-cause : (schema : Schema) (end : Side) (before behind : List Line) (n : ℤ) (r : Request) (why : Reason) (own : EndReading) → lives own ≡ actors.lives (said_by end before) → own.event ≡ last_kind (said_by end before) → own_request own n ≡ Some r
-    → (other : EndReading) → other.sent ≡ sent schema (said_by (other_end end) before) → Decides (is_cause schema end own other n behind why) (HasCause schema end before behind n r why)
-unfolding is_destroyed says_fallen resolves_missing promise_falls_next
-cause schema end before behind n r reason.HandlerRejected own l v q other o =
+cause : (schema : Schema) (end : Side) (before following : List Line) (n : ℤ) (r : Request) (why : Reason) (own : EndReading) → lives own ≡ actors.lives (said_by end before) → own.event ≡ last_kind (said_by end before) → own_request own n ≡ Some r
+    → (other : EndReading) → other.sent ≡ sent schema (said_by (other_end end) before) → Decides (is_cause schema end own other n following why) (HasCause schema end before following n r why)
+unfolding is_destroyed reports_fallen resolves_missing promise_falls_next
+cause schema end before following n r reason.HandlerRejected own l v q other o =
     subst (λ (ps : List SentPacket). Decides (says is_rejected ps n) (Contains (sent schema (said_by (other_end end) before)) (said n rejected))) (sym o) (rejection-said (sent schema (said_by (other_end end) before)) n)
-cause schema end before behind n r reason.ResolverDestroyed own l v q other o =
+cause schema end before following n r reason.ResolverDestroyed own l v q other o =
     subst (λ (ps : List SentPacket). Decides (says (is_fault reason.ResolverDestroyed) ps n) (Contains (sent schema (said_by (other_end end) before)) (said n (fault reason.ResolverDestroyed)))) (sym o)
     (fault-said reason.ResolverDestroyed (sent schema (said_by (other_end end) before)) n)
-cause schema end before behind n r reason.ChannelClosed own l v q other o =
+cause schema end before following n r reason.ChannelClosed own l v q other o =
     subst (λ (b : Bool). Decides b (IsTrue (option_map_or is_closing (last_event (said_by end before)) false))) (sym (ap is_close_event v ∙ closes (last_event (said_by end before)))) (itself (option_map_or is_closing (last_event (said_by end before)) false))
-cause schema end before behind n r reason.ActorDestroyed own l v q other o =
+cause schema end before following n r reason.ActorDestroyed own l v q other o =
     subst (λ (ps : List SentPacket). Decides (if (if says (is_fault reason.ActorDestroyed) ps n then true else says (test.is_resolved_missing schema own (option_map_or (λ x. returns_of schema x.number) (own_request own n) [])) ps n) then true
-    else option_map_or (λ x. falls_next end x.route behind) (own_request own n) false) (HasCause schema end before behind n r reason.ActorDestroyed)) (sym o)
+    else option_map_or (λ x. falls_next end x.route following) (own_request own n) false) (HasCause schema end before following n r reason.ActorDestroyed)) (sym o)
     (subst (λ (found : Option Request). Decides (if (if says (is_fault reason.ActorDestroyed) (sent schema (said_by (other_end end) before)) n then true
     else says (test.is_resolved_missing schema own (option_map_or (λ x. returns_of schema x.number) found [])) (sent schema (said_by (other_end end) before)) n) then true
-    else option_map_or (λ x. falls_next end x.route behind) found false) (HasCause schema end before behind n r reason.ActorDestroyed)) (sym q)
+    else option_map_or (λ x. falls_next end x.route following) found false) (HasCause schema end before following n r reason.ActorDestroyed)) (sym q)
     (recast (if (if says (is_fault reason.ActorDestroyed) (sent schema (said_by (other_end end) before)) n then true else says (test.is_resolved_missing schema own (returns_of schema r.number)) (sent schema (said_by (other_end end) before)) n) then true
-    else falls_next end r.route behind)
-    (either (if says (is_fault reason.ActorDestroyed) (sent schema (said_by (other_end end) before)) n then true else says (test.is_resolved_missing schema own (returns_of schema r.number)) (sent schema (said_by (other_end end) before)) n) (falls_next end r.route behind)
+    else falls_next end r.route following)
+    (either (if says (is_fault reason.ActorDestroyed) (sent schema (said_by (other_end end) before)) n then true else says (test.is_resolved_missing schema own (returns_of schema r.number)) (sent schema (said_by (other_end end) before)) n) (falls_next end r.route following)
     (either (says (is_fault reason.ActorDestroyed) (sent schema (said_by (other_end end) before)) n) (says (test.is_resolved_missing schema own (returns_of schema r.number)) (sent schema (said_by (other_end end) before)) n)
     (fault-said reason.ActorDestroyed (sent schema (said_by (other_end end) before)) n) (missing-said schema (actors.lives (said_by end before)) (returns_of schema r.number) own (sent schema (said_by (other_end end) before)) n l))
-    (next end r.route behind)) left right))
+    (next end r.route following)) left right))
   where
-    left : (Contains (sent schema (said_by (other_end end) before)) (said n (fault reason.ActorDestroyed)) ⊎ HasResolvedMissing schema (said_by end before) (said_by (other_end end) before) n r) ⊎ FallsNext end r.route behind
-        → HasCause schema end before behind n r reason.ActorDestroyed
+    left : (Contains (sent schema (said_by (other_end end) before)) (said n (fault reason.ActorDestroyed)) ⊎ HasResolvedMissing schema (said_by end before) (said_by (other_end end) before) n r) ⊎ FallsNext end r.route following
+        → HasCause schema end before following n r reason.ActorDestroyed
     left (inl (inl a)) = inl a
     left (inl (inr b)) = inr (inl b)
     left (inr c) = inr (inr c)
 
-    right : HasCause schema end before behind n r reason.ActorDestroyed
-        → (Contains (sent schema (said_by (other_end end) before)) (said n (fault reason.ActorDestroyed)) ⊎ HasResolvedMissing schema (said_by end before) (said_by (other_end end) before) n r) ⊎ FallsNext end r.route behind
+    right : HasCause schema end before following n r reason.ActorDestroyed
+        → (Contains (sent schema (said_by (other_end end) before)) (said n (fault reason.ActorDestroyed)) ⊎ HasResolvedMissing schema (said_by end before) (said_by (other_end end) before) n r) ⊎ FallsNext end r.route following
     right (inl a) = inl (inl a)
     right (inr (inl b)) = inl (inr b)
     right (inr (inr c)) = inr c
 
-rejecting : (schema : Schema) (end : Side) (before behind : List Line) (n : ℤ) (why : Reason)
-    → Decides (is_unsettled (end_reading_of end (read schema before)) n && is_cause schema end (end_reading_of end (read schema before)) (end_reading_of (other_end end) (read schema before)) n behind why)
-    ((r : Request) × IsPending schema (said_by end before) n r × HasCause schema end before behind n r why)
-rejecting schema end before behind n why =
-    pending schema end before n (is_cause schema end (end_reading_of end (read schema before)) (end_reading_of (other_end end) (read schema before)) n behind why) (λ r. HasCause schema end before behind n r why)
-    (λ r q. cause schema end before behind n r why (end_reading_of end (read schema before)) (lives-read schema end before) (event-read schema end before) q (end_reading_of (other_end end) (read schema before)) (sent-read schema (other_end end) before))
+rejecting : (schema : Schema) (end : Side) (before following : List Line) (n : ℤ) (why : Reason)
+    → Decides (is_unsettled (end_reading_of end (read schema before)) n && is_cause schema end (end_reading_of end (read schema before)) (end_reading_of (other_end end) (read schema before)) n following why)
+    ((r : Request) × IsPending schema (said_by end before) n r × HasCause schema end before following n r why)
+rejecting schema end before following n why =
+    pending schema end before n (is_cause schema end (end_reading_of end (read schema before)) (end_reading_of (other_end end) (read schema before)) n following why) (λ r. HasCause schema end before following n r why)
+    (λ r q. cause schema end before following n r why (end_reading_of end (read schema before)) (lives-read schema end before) (event-read schema end before) q (end_reading_of (other_end end) (read schema before)) (sent-read schema (other_end end) before))
 
 -- The moments
 
@@ -256,36 +257,36 @@ moment-from schema end before h =
 
 -- From the test to the statement, and back
 
-tested : (schema : Schema) (lines : List Line) → Passes law.Settled schema lines → (before : List Line) (end : Side) (w : What) (behind : List Line) → lines ≡ before ++ line_of end w ∷ behind
-    → IsTrue (settled_line schema end (end_reading_of end (read schema before)) (end_reading_of (other_end end) (read schema before)) w behind)
-tested schema lines p before end w behind e =
-    subst (λ (o : EndReading). IsTrue (settled_line schema end (end_reading_of end (read schema before)) o w behind)) (other-read end (read schema before)) (p.places before (line_of end w) behind e)
+tested : (schema : Schema) (lines : List Line) → Passes law.Settled schema lines → (before : List Line) (end : Side) (w : What) (following : List Line) → lines ≡ before ++ line_of end w ∷ following
+    → IsTrue (settled_line schema end (end_reading_of end (read schema before)) (end_reading_of (other_end end) (read schema before)) w following)
+tested schema lines p before end w following e =
+    subst (λ (o : EndReading). IsTrue (settled_line schema end (end_reading_of end (read schema before)) o w following)) (other-read end (read schema before)) (p.places before (line_of end w) following e)
 
-moment-of : (schema : Schema) (lines : List Line) → Passes law.Settled schema lines → (end : Side) (before behind : List Line) → lines ≡ before ++ behind → IsTrue (is_moment behind) → IsTrue (settled_moment (end_reading_of end (read schema before)))
+moment-of : (schema : Schema) (lines : List Line) → Passes law.Settled schema lines → (end : Side) (before following : List Line) → lines ≡ before ++ following → IsTrue (is_moment following) → IsTrue (settled_moment (end_reading_of end (read schema before)))
 unfolding moment_test
-moment-of schema lines p side.Parent before behind e m = (and_parts (settled_moment (read schema before).parent) (settled_moment (read schema before).child) (p.moments before behind e m)).0
-moment-of schema lines p side.Child before behind e m = (and_parts (settled_moment (read schema before).parent) (settled_moment (read schema before).child) (p.moments before behind e m)).1
+moment-of schema lines p side.Parent before following e m = (and_parts (settled_moment (read schema before).parent) (settled_moment (read schema before).child) (p.moments before following e m)).0
+moment-of schema lines p side.Child before following e m = (and_parts (settled_moment (read schema before).parent) (settled_moment (read schema before).child) (p.moments before following e m)).1
 
 to : (schema : Schema) (lines : List Line) → Passes law.Settled schema lines → Settled schema lines
 to schema lines p = record {
-  resolves = λ end n values before behind e. (resolving schema end before n values).0 (tested schema lines p before end (what.Resolved n values) behind e);
-  rejects = λ end n why before behind e. (rejecting schema end before behind n why).0 (tested schema lines p before end (what.Rejected n why) behind e);
-  closings = λ end r before behind e m closed c w. moment-to schema end before (moment-of schema lines p end before behind e m) closed r c w;
+  resolves = λ end n values before following e. (resolving schema end before n values).0 (tested schema lines p before end (what.Resolved n values) following e);
+  rejects = λ end n why before following e. (rejecting schema end before following n why).0 (tested schema lines p before end (what.Rejected n why) following e);
+  closings = λ end r before following e m closed c w. moment-to schema end before (moment-of schema lines p end before following e m) closed r c w;
 }
 
-place : (schema : Schema) (lines : List Line) → Settled schema lines → (before : List Line) (end : Side) (w : What) (behind : List Line) → lines ≡ before ++ line_of end w ∷ behind
-    → IsTrue (settled_line schema end (end_reading_of end (read schema before)) (end_reading_of (other_end end) (read schema before)) w behind)
-place schema lines s before end (what.Resolved n values) behind e = (resolving schema end before n values).1 (s.resolves end n values before behind e)
-place schema lines s before end (what.Rejected n why) behind e = (rejecting schema end before behind n why).1 (s.rejects end n why before behind e)
-place schema lines s before end _ behind e = refl
+place : (schema : Schema) (lines : List Line) → Settled schema lines → (before : List Line) (end : Side) (w : What) (following : List Line) → lines ≡ before ++ line_of end w ∷ following
+    → IsTrue (settled_line schema end (end_reading_of end (read schema before)) (end_reading_of (other_end end) (read schema before)) w following)
+place schema lines s before end (what.Resolved n values) following e = (resolving schema end before n values).1 (s.resolves end n values before following e)
+place schema lines s before end (what.Rejected n why) following e = (rejecting schema end before following n why).1 (s.rejects end n why before following e)
+place schema lines s before end _ following e = refl
 
 back : (schema : Schema) (lines : List Line) → Settled schema lines → Passes law.Settled schema lines
 unfolding moment_test
 back schema lines s = record {
-  places = λ before line behind e. subst (λ (o : EndReading). IsTrue (settled_line schema line.side (end_reading_of line.side (read schema before)) o line.what behind)) (sym (other-read line.side (read schema before))) (place schema lines s before line.side line.what behind e);
-  moments = λ before behind e m.
+  places = λ before line following e. subst (λ (o : EndReading). IsTrue (settled_line schema line.side (end_reading_of line.side (read schema before)) o line.what following)) (sym (other-read line.side (read schema before))) (place schema lines s before line.side line.what following e);
+  moments = λ before following e m.
       and_from (settled_moment (read schema before).parent) (settled_moment (read schema before).child)
-      (moment-from schema side.Parent before (λ closed r c w. s.closings side.Parent r before behind e m closed c w)) (moment-from schema side.Child before (λ closed r c w. s.closings side.Child r before behind e m closed c w));
+      (moment-from schema side.Parent before (λ closed r c w. s.closings side.Parent r before following e m closed c w)) (moment-from schema side.Child before (λ closed r c w. s.closings side.Child r before following e m closed c w));
 }
 
 pub settled-to : (schema : Schema) (lines : List Line) → Holds law.Settled schema lines → Settled schema lines

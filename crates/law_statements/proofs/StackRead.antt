@@ -1,4 +1,4 @@
--- What is read of the stack of an end is the stack that its lines make.
+-- What is read of the stack of an end is the stack of its lines.
 use Rattle.std.proofs.Common.{◌≡◌, ℕ, zero, suc, ◌+◌, ℤ, Bool, true, false, not, ◌&&◌, ◌||◌, if◌then◌else◌, IsTrue, List, [], ◌∷◌, ◌++◌, length, fold, find, Option, Some, None, is_some, option_to_list, refl, sym, ap, subst, ◌∙◌, arith}
 use Rattle.std.specs.List.{cons_option, list_any}
 use Rattle.std.specs.Option.{option_map_or, option_or}
@@ -21,7 +21,8 @@ use Rattle.history_reading.specs.EndReading.{EndReading, is_sync_request, is_una
 use Rattle.history_reading.specs.Holds.{IsReadable, is_of_event, is_readable, is_readable_what}
 use Rattle.history_reading.specs.Reading.{Reading, after, after_at, after_what, answered, answering, arriving, below_top, delivering, end_reading_of, opening_reading, read}
 use Rattle.history_reading.specs.SentPacket.{Request, SentPacket, request_in, request_of, requests_of}
-use Rattle.law_statements.specs.Said.{line_of, made_of, other_end, said_by}
+use Rattle.ipdl_base.specs.Sides.{other as other_end}
+use Rattle.law_statements.specs.Said.{line_of, made_of, said_by}
 use Rattle.law_statements.specs.Packets.{request_at, sent, sent_at}
 use Rattle.law_statements.specs.Stack.{begins_frame, begins_wait, ends_frame, ends_wait, frame_at, frame_of, frame_with, is_death, is_sync_of, is_unended, stack, stack_from, stays, wait_frame, waits}
 use Rattle.law_statements.proofs.Along.{read-more, readable-places}
@@ -114,7 +115,7 @@ stand-other : (sync : ℤ → Bool) (s : Side) (xs : List Line) (w : What) → A
 stand-other sync s [] w a = (λ n own call d h. refl, tt)
 stand-other sync s (x ∷ xs) w a = (subst (Stands sync (other_end s) x) (sym (said-other s xs w)) a.0, stand-other sync s xs w a.1)
 
--- Which requests are sync is settled by the first of their number
+-- The first request of a number decides whether it is sync
 
 agree-tail : (end : Side) (n : ℤ) (x : Line) (xs : List Line) → list_any (begins_wait n) (said_by end xs) ≡ true → list_any (begins_wait n) (said_by end (x ∷ xs)) ≡ true
 agree-tail end n x xs e = by (same_side x.side end)
@@ -223,7 +224,7 @@ and-false : (b : Bool) → (b && false) ≡ false
 and-false true = refl
 and-false false = refl
 
--- a reply to a request of a number ends the waits of that number where the request is sync, and else none
+-- a reply to a request of a number ends the waits of that number if the request is sync, and otherwise no wait
 reply-ends : (sync : ℤ → Bool) (n m : ℤ) (b : Bool) → sync n ≡ b → ends_wait (sync m) m (what.DeliverReply n) ≡ (b && int_eq n m)
 reply-ends sync n m b y = by (int_eq n m) refl
   where
@@ -283,7 +284,7 @@ pub record StackRead (schema : Schema) (end : Side) (before : List Line) : Type 
   pub stack : (end_reading_of end (read schema before)).stack ≡ stack schema end before
   pub stand : AllStand (is_sync_of schema (said_by end before)) end before
 
--- what a readable line takes off is no wait without an answer
+-- what a readable line removes is not an unanswered wait
 ends-no-wait : (schema : Schema) (st : List CallFrame) (w : What) → is_readable_what schema st w ≡ true → ends_frame w ≡ true → top_waits st ≡ false
 ends-no-wait schema [] w r e = refl
 ends-no-wait schema (frame.Dispatch d ∷ below) w r e = refl
@@ -349,10 +350,10 @@ opens schema side.Parent = record { stack = refl; stand = tt }
 opens schema side.Child = record { stack = refl; stand = tt }
 
 -- from readable places on, and at each place of readable lines
-pub stacks-along : (schema : Schema) (lines : List Line) → ((before : List Line) (line : Line) (behind : List Line) → lines ≡ before ++ line ∷ behind → IsTrue (is_readable schema (read schema before) line))
-    → (before behind : List Line) → lines ≡ before ++ behind → (end : Side) → StackRead schema end before
-stacks-along schema lines r before behind e =
-    through lines (λ front. (end : Side) → StackRead schema end front) (opens schema) (λ front line later is p. both-more schema front line.side line.what (readable-what schema front line (r front line later is)) p) before behind e
+pub stacks-along : (schema : Schema) (lines : List Line) → ((before : List Line) (line : Line) (following : List Line) → lines ≡ before ++ line ∷ following → IsTrue (is_readable schema (read schema before) line))
+    → (before following : List Line) → lines ≡ before ++ following → (end : Side) → StackRead schema end before
+stacks-along schema lines r before following e =
+    through lines (λ front. (end : Side) → StackRead schema end front) (opens schema) (λ front line later is p. both-more schema front line.side line.what (readable-what schema front line (r front line later is)) p) before following e
 
-pub stack-read : (schema : Schema) (lines : List Line) → IsReadable schema lines → (end : Side) (before behind : List Line) → lines ≡ before ++ behind → (end_reading_of end (read schema before)).stack ≡ stack schema end before
-stack-read schema lines r end before behind e = (stacks-along schema lines (readable-places schema lines r) before behind e end).stack
+pub stack-read : (schema : Schema) (lines : List Line) → IsReadable schema lines → (end : Side) (before following : List Line) → lines ≡ before ++ following → (end_reading_of end (read schema before)).stack ≡ stack schema end before
+stack-read schema lines r end before following e = (stacks-along schema lines (readable-places schema lines r) before following e end).stack

@@ -1,4 +1,4 @@
--- The stack that lines make: what one more line of an end does to it.
+-- The stack of some lines: what one more line of an end does to it.
 use Rattle.std.proofs.Common.{◌≡◌, ℕ, suc, ◌+◌, ◌<◌, ℤ, Bool, true, false, not, ◌&&◌, ◌||◌, if◌then◌else◌, List, [], ◌∷◌, ◌++◌, length, Option, Some, None, is_some, option_to_list, refl, sym, ap, ◌∙◌, arith, append_assoc, length-append}
 use Rattle.std.specs.List.{cons_option, list_any}
 use Rattle.std.proofs.lemmas.Bool.Decides.{Decides-int_eq}
@@ -11,7 +11,8 @@ use Rattle.ipdl_base.specs.declared.line.What.TheVariants as what
 use Rattle.ipdl_base.specs.Lines.{same_side}
 use Rattle.history_reading.specs.declared.parts.CallFrame.{CallFrame}
 use Rattle.history_reading.specs.Reading.{below_top}
-use Rattle.law_statements.specs.Said.{line_of, other_end, said_by}
+use Rattle.ipdl_base.specs.Sides.{other}
+use Rattle.law_statements.specs.Said.{line_of, said_by}
 use Rattle.law_statements.specs.Stack.{begins_frame, begins_wait, ends_frame, ends_wait, frame_at, frame_of, frame_with, is_death, is_unended, stack_from, stays, wait_frame, waits}
 use Rattle.law_statements.proofs.Ends.{said-own, said-other}
 use Rattle.law_statements.proofs.Lists.{any-add}
@@ -26,17 +27,17 @@ pub waits-apart : (sync : Bool) (n : ℤ) (w : What) → begins_wait n w ≡ tru
 waits-apart sync n (what.Call m transaction route number values) e = refl
 waits-apart sync n _ e = cc
 
--- how many frames and how many waits of a number are unended
+-- the number of frames and the number of waits of a number that are unended
 abbrev pub frames_left : List What → ℕ
-frames_left behind = unended begins_frame ends_frame behind
+frames_left following = unended begins_frame ends_frame following
 
 abbrev pub waits_left : Bool → ℤ → List What → ℕ
-waits_left sync n behind = unended (begins_wait n) (ends_wait sync n) behind
+waits_left sync n following = unended (begins_wait n) (ends_wait sync n) following
 
 abbrev pub died : List What → Bool
-died behind = list_any is_death behind
+died following = list_any is_death following
 
--- Frames, with one more line of their end behind them
+-- Frames, followed by one more line of their end
 
 pub stays-same : (bs : List What) (w : What) → is_death w ≡ false → ends_frame w ≡ false → stays (bs ++ w ∷ []) ≡ stays bs
 stays-same bs w d e =
@@ -104,12 +105,12 @@ stack-keeps sync end k (x ∷ xs) w d e h =
 
 -- A line of the other end
 
-pub stack-other : (sync : ℤ → Bool) (s : Side) (k : ℕ) (xs : List Line) (w : What) → stack_from sync (other_end s) k (xs ++ line_of s w ∷ []) ≡ stack_from sync (other_end s) k xs
+pub stack-other : (sync : ℤ → Bool) (s : Side) (k : ℕ) (xs : List Line) (w : What) → stack_from sync (other s) k (xs ++ line_of s w ∷ []) ≡ stack_from sync (other s) k xs
 stack-other sync side.Parent k [] w = refl
 stack-other sync side.Child k [] w = refl
 stack-other sync s k (x ∷ xs) w =
-    ap (λ (fs : List CallFrame). fs ++ option_to_list (frame_at sync (other_end s) k x (xs ++ line_of s w ∷ []))) (stack-other sync s (k + 1) xs w)
-    ∙ ap (λ (own : List What). stack_from sync (other_end s) (k + 1) xs ++ option_to_list (if same_side x.side (other_end s) then frame_with sync own k x.what else None)) (said-other s xs w)
+    ap (λ (fs : List CallFrame). fs ++ option_to_list (frame_at sync (other s) k x (xs ++ line_of s w ∷ []))) (stack-other sync s (k + 1) xs w)
+    ∙ ap (λ (own : List What). stack_from sync (other s) (k + 1) xs ++ option_to_list (if same_side x.side (other s) then frame_with sync own k x.what else None)) (said-other s xs w)
 
 -- The death of the end
 
@@ -126,7 +127,7 @@ stack-dies sync end k (x ∷ xs) =
     ∙ ap (λ (f : Option CallFrame). if same_side x.side end then f else None) (with-none sync (said_by end xs ++ what.Die ∷ []) k x.what (stays-dead (said_by end xs ++ what.Die ∷ []) (any-add is_death (said_by end xs) what.Die)))
     ∙ if-same (same_side x.side end) None)
 
--- Calls that wait are on the stack: none of them was taken off
+-- Calls that wait are on the stack: none of them was removed
 
 abbrev pub Stands : (ℤ → Bool) → Side → Line → List What → Type 0
 Stands sync end x bs = (n : ℤ) → same_side x.side end ≡ true → begins_wait n x.what ≡ true → died bs ≡ false → waits (sync n) n bs ≡ true → is_unended begins_frame ends_frame bs ≡ true
@@ -135,7 +136,7 @@ abbrev pub AllStand : (ℤ → Bool) → Side → List Line → Type 0
 AllStand sync end [] = Unit {0}
 AllStand sync end (x ∷ xs) = Stands sync end x (said_by end xs) × AllStand sync end xs
 
--- How many frames there are
+-- The number of frames
 
 one-long : {A : Type 0} (o : Option A) → length (option_to_list o) ≡ (if is_some o then 1 else 0)
 one-long None = refl
@@ -185,7 +186,7 @@ stack-long sync end k (x ∷ xs) d = length-append (stack_from sync end (k + 1) 
         or-right true u e = cc
         or-right false u e = e
 
--- Where a frame comes off
+-- Where a frame is removed
 
 below-one : (o : Option CallFrame) → below_top (option_to_list o) ≡ []
 below-one None = refl

@@ -2,10 +2,10 @@
 use Rattle.std.proofs.Common.{◌≡◌, ℕ, zero, suc, ◌+◌, ◌-◌, ◌≤◌, ◌<◌, ◌==◌, leb, Bool, true, false, ◌&&◌, if◌then◌else◌, List, [], ◌∷◌, ◌++◌, map, fold, count_by, refl, sym, ap, ◌∙◌, arith}
 use Rattle.std.specs.List.{list_all}
 use Rattle.std.proofs.lemmas.List.Folds.{list_all-map}
-use Rattle.law_statements.specs.Stack.{fronts, is_unended}
+use Rattle.law_statements.specs.Stack.{prefixes, is_unended}
 use Rattle.std.proofs.lemmas.Bool.{leb-true, leb-false, le-leb, lt-leb, ne_eqb}
 
--- how many more have ended than began, at most, in what stands behind
+-- the number by which ends exceed begins, at most, in what follows
 abbrev pub step : Bool → Bool → ℕ → ℕ
 step true e n = n - 1
 step false true n = n + 1
@@ -15,7 +15,7 @@ abbrev pub excess : {A : Type 0} → (A → Bool) → (A → Bool) → List A �
 excess begins ends [] = 0
 excess begins ends (x ∷ xs) = step (begins x) (ends x) (excess begins ends xs)
 
--- how many have begun and not ended
+-- the number that have begun and not ended
 abbrev pub kept : Bool → ℕ → ℕ → ℕ
 kept true zero u = u + 1
 kept true (suc n) u = u
@@ -58,21 +58,21 @@ all-same : {A : Type 0} (p q : A → Bool) (xs : List A) → ((x : A) → p x �
 all-same p q [] h = refl
 all-same p q (x ∷ xs) h = ap (λ b. b && list_all p xs) (h x) ∙ ap (λ b. q x && b) (all-same p q xs h)
 
--- in no front have more ended than began, and so many besides
+-- in no prefix do the ends exceed the begins by more than this number
 within : {A : Type 0} → (A → Bool) → (A → Bool) → ℕ → List A → Bool
 within begins ends d front = leb (count_by ends front) (count_by begins front + d)
 
 all-within : {A : Type 0} → (A → Bool) → (A → Bool) → ℕ → List A → Bool
-all-within begins ends d xs = list_all (within begins ends d) (fronts xs)
+all-within begins ends d xs = list_all (within begins ends d) (prefixes xs)
 
 first-within : {A : Type 0} (begins ends : A → Bool) (d : ℕ) → within begins ends d [] ≡ true
 unfolding within
 first-within begins ends d = le-leb 0 (0 + d) (omega arith)
 
-behind-first : {A : Type 0} (begins ends : A → Bool) (d : ℕ) (x : A) (xs : List A) → all-within begins ends d (x ∷ xs) ≡ list_all (λ front. within begins ends d (x ∷ front)) (fronts xs)
+following-first : {A : Type 0} (begins ends : A → Bool) (d : ℕ) (x : A) (xs : List A) → all-within begins ends d (x ∷ xs) ≡ list_all (λ front. within begins ends d (x ∷ front)) (prefixes xs)
 unfolding all-within
-behind-first begins ends d x xs =
-    ap (λ b. b && list_all (within begins ends d) (map (λ front. x ∷ front) (fronts xs))) (first-within begins ends d) ∙ list_all-map (within begins ends d) (λ front. x ∷ front) (fronts xs)
+following-first begins ends d x xs =
+    ap (λ b. b && list_all (within begins ends d) (map (λ front. x ∷ front) (prefixes xs))) (first-within begins ends d) ∙ list_all-map (within begins ends d) (λ front. x ∷ front) (prefixes xs)
 
 counts : {A : Type 0} (begins ends : A → Bool) (d : ℕ) (x : A) (front : List A)
     → within begins ends d (x ∷ front) ≡ leb ((if ends x then 1 else 0) + count_by ends front) ((if begins x then 1 else 0) + count_by begins front + d)
@@ -80,15 +80,15 @@ unfolding within
 counts begins ends d x front =
     ap (λ m. leb m (count_by begins (x ∷ front) + d)) (count-cons ends x front) ∙ ap (λ m. leb ((if ends x then 1 else 0) + count_by ends front) (m + d)) (count-cons begins x front)
 
-none-within : {A : Type 0} (begins ends : A → Bool) (xs : List A) (p : List A → Bool) → p [] ≡ false → list_all p (fronts xs) ≡ false
+none-within : {A : Type 0} (begins ends : A → Bool) (xs : List A) (p : List A → Bool) → p [] ≡ false → list_all p (prefixes xs) ≡ false
 none-within begins ends [] p e = ap (λ b. b && true) e
-none-within begins ends (x ∷ xs) p e = ap (λ b. b && list_all p (map (λ front. x ∷ front) (fronts xs))) e
+none-within begins ends (x ∷ xs) p e = ap (λ b. b && list_all p (map (λ front. x ∷ front) (prefixes xs))) e
 
 step-within : {A : Type 0} (begins ends : A → Bool) (x : A) (xs : List A) → ((d : ℕ) → all-within begins ends d xs ≡ leb (excess begins ends xs) d)
-    → (b e : Bool) → begins x ≡ b → ends x ≡ e → (b ≡ true → e ≡ false) → (d : ℕ) → list_all (λ front. within begins ends d (x ∷ front)) (fronts xs) ≡ leb (step b e (excess begins ends xs)) d
+    → (b e : Bool) → begins x ≡ b → ends x ≡ e → (b ≡ true → e ≡ false) → (d : ℕ) → list_all (λ front. within begins ends d (x ∷ front)) (prefixes xs) ≡ leb (step b e (excess begins ends xs)) d
 unfolding within all-within
 step-within begins ends x xs more true e bis eis apart d =
-    all-same (λ front. within begins ends d (x ∷ front)) (within begins ends (d + 1)) (fronts xs) one ∙ more (d + 1)
+    all-same (λ front. within begins ends d (x ∷ front)) (within begins ends (d + 1)) (prefixes xs) one ∙ more (d + 1)
     ∙ leb-same (excess begins ends xs) (d + 1) (excess begins ends xs - 1) d (λ h. omega (arith, h)) (λ h. omega (arith, h))
   where
     one : (front : _) → within begins ends d (x ∷ front) ≡ within begins ends (d + 1) front
@@ -101,7 +101,7 @@ step-within begins ends x xs more false true bis eis apart zero =
     none-within begins ends xs (λ front. within begins ends 0 (x ∷ front)) (counts begins ends 0 x [] ∙ ap (λ (t : Bool). leb ((if t then 1 else 0) + 0) ((if begins x then 1 else 0) + 0 + 0)) eis ∙ ap (λ (t : Bool). leb (1 + 0) ((if t then 1 else 0) + 0 + 0)) bis)
     ∙ sym (lt-leb (excess begins ends xs + 1) 0 (omega arith))
 step-within begins ends x xs more false true bis eis apart (suc d) =
-    all-same (λ front. within begins ends (suc d) (x ∷ front)) (within begins ends d) (fronts xs) one ∙ more d
+    all-same (λ front. within begins ends (suc d) (x ∷ front)) (within begins ends d) (prefixes xs) one ∙ more d
     ∙ leb-same (excess begins ends xs) d (excess begins ends xs + 1) (suc d) (λ h. omega (arith, h)) (λ h. omega (arith, h))
   where
     one : (front : _) → within begins ends (suc d) (x ∷ front) ≡ within begins ends d front
@@ -110,7 +110,7 @@ step-within begins ends x xs more false true bis eis apart (suc d) =
         ∙ ap (λ (t : Bool). leb ((if t then 1 else 0) + count_by ends front) ((if begins x then 1 else 0) + count_by begins front + suc d)) eis
         ∙ ap (λ (t : Bool). leb (1 + count_by ends front) ((if t then 1 else 0) + count_by begins front + suc d)) bis
         ∙ leb-same (1 + count_by ends front) (0 + count_by begins front + suc d) (count_by ends front) (count_by begins front + d) (λ h. omega (arith, h)) (λ h. omega (arith, h))
-step-within begins ends x xs more false false bis eis apart d = all-same (λ front. within begins ends d (x ∷ front)) (within begins ends d) (fronts xs) one ∙ more d
+step-within begins ends x xs more false false bis eis apart d = all-same (λ front. within begins ends d (x ∷ front)) (within begins ends d) (prefixes xs) one ∙ more d
   where
     one : (front : _) → within begins ends d (x ∷ front) ≡ within begins ends d front
     one front =
@@ -123,7 +123,7 @@ within-excess : {A : Type 0} (begins ends : A → Bool) → ((x : A) → begins 
 unfolding within all-within
 within-excess begins ends apart [] d = ap (λ b. b && true) (first-within begins ends d) ∙ sym (le-leb 0 d (omega arith))
 within-excess begins ends apart (x ∷ xs) d =
-    behind-first begins ends d x xs ∙ step-within begins ends x xs (within-excess begins ends apart xs) (begins x) (ends x) refl refl (apart x) d
+    following-first begins ends d x xs ∙ step-within begins ends x xs (within-excess begins ends apart xs) (begins x) (ends x) refl refl (apart x) d
 
 leb-zero : (n : ℕ) → leb n 0 ≡ (n == 0)
 leb-zero zero = refl
@@ -132,7 +132,7 @@ leb-zero (suc n) = lt-leb (suc n) 0 (omega arith) ∙ sym (ne_eqb (suc n) 0 (λ 
 pub unended-is : {A : Type 0} (begins ends : A → Bool) → ((x : A) → begins x ≡ true → ends x ≡ false) → (xs : List A) → is_unended begins ends xs ≡ (excess begins ends xs == 0)
 unfolding within all-within
 unended-is begins ends apart xs =
-    all-same (λ front. leb (count_by ends front) (count_by begins front)) (within begins ends 0) (fronts xs) (λ front. ap (leb (count_by ends front)) (plus (count_by begins front)))
+    all-same (λ front. leb (count_by ends front) (count_by begins front)) (within begins ends 0) (prefixes xs) (λ front. ap (leb (count_by ends front)) (plus (count_by begins front)))
     ∙ within-excess begins ends apart xs 0 ∙ leb-zero (excess begins ends xs)
   where
     plus : (n : ℕ) → n ≡ n + 0
@@ -166,7 +166,7 @@ excess-ended begins ends (x ∷ xs) w b e = ended-step (begins x) (ends x) (exce
 pub unended-same : {A : Type 0} (begins ends : A → Bool) → ((x : A) → begins x ≡ true → ends x ≡ false) → (xs : List A) (w : A) → ends w ≡ false → is_unended begins ends (xs ++ w ∷ []) ≡ is_unended begins ends xs
 unended-same begins ends apart xs w e = unended-is begins ends apart (xs ++ w ∷ []) ∙ ap (λ n. n == 0) (excess-same begins ends xs w e) ∙ sym (unended-is begins ends apart xs)
 
--- where an end comes, one that is unended stays so exactly where another behind it is unended too
+-- where an end comes, an unended begin stays so exactly where another after it is unended too
 pub unended-kept : {A : Type 0} (begins ends : A → Bool) → ((x : A) → begins x ≡ true → ends x ≡ false) → (xs : List A) (w : A) → begins w ≡ false → ends w ≡ true → 0 < unended begins ends xs
     → is_unended begins ends (xs ++ w ∷ []) ≡ is_unended begins ends xs
 unended-kept begins ends apart xs w b e p = unended-is begins ends apart (xs ++ w ∷ []) ∙ ap (λ n. n == 0) ((excess-ended begins ends xs w b e).some p) ∙ sym (unended-is begins ends apart xs)
@@ -175,7 +175,7 @@ pub unended-ends : {A : Type 0} (begins ends : A → Bool) → ((x : A) → begi
     → is_unended begins ends (xs ++ w ∷ []) ≡ false
 unended-ends begins ends apart xs w b e z = unended-is begins ends apart (xs ++ w ∷ []) ∙ ne_eqb (excess begins ends (xs ++ w ∷ [])) 0 (λ n. omega (arith, n, (excess-ended begins ends xs w b e).none z))
 
--- one more that begins counts where it is unended
+-- one more that begins is counted if it is unended
 kept-if : (n u : ℕ) → kept true n u ≡ (if n == 0 then u + 1 else u)
 kept-if zero u = refl
 kept-if (suc n) u = ap (λ (t : Bool). if t then u + 1 else u) (sym (ne_eqb (suc n) 0 (λ e. omega (arith, e))))
@@ -188,7 +188,7 @@ unended-cons begins ends apart x xs = by (begins x) ∙ ap (λ (t : Bool). if be
     by true = kept-if (excess begins ends xs) (unended begins ends xs)
     by false = refl
 
--- what has ended stays so
+-- what has ended stays ended
 pub unended-before : {A : Type 0} (begins ends : A → Bool) → ((x : A) → begins x ≡ true → ends x ≡ false) → (xs : List A) (w : A) → is_unended begins ends (xs ++ w ∷ []) ≡ true → is_unended begins ends xs ≡ true
 unended-before begins ends apart xs w e = by (ends w) refl (begins w) refl
   where

@@ -10,7 +10,7 @@ use Rattle.ipdl_base.specs.declared.line.What.{What}
 use Rattle.ipdl_base.specs.declared.line.What.TheVariants as what
 use Rattle.ipdl_base.specs.declared.schema.Schema.{Schema}
 use Rattle.ipdl_base.specs.Lines.{same_side}
-use Rattle.history_reading.specs.declared.held.Held.{Held}
+use Rattle.history_reading.specs.declared.unanswered_call.UnansweredCall.{UnansweredCall}
 use Rattle.history_reading.specs.declared.parts.Call.{Call}
 use Rattle.history_reading.specs.declared.parts.CallFrame.{CallFrame}
 use Rattle.history_reading.specs.Chain.{chain_of, held_call, held_from, is_wait_from}
@@ -22,7 +22,7 @@ use Rattle.law_statements.specs.Stack.{frame_at, frame_of, frame_with, is_sync_o
 use Rattle.law_statements.proofs.Answering.{or-nothing}
 use Rattle.law_statements.proofs.StackRead.{side-own, stack-read}
 
--- Frames stand at their places
+-- Frames are at their places
 
 wait-from : (place : ℕ) (b : Bool) (c : Call) → is_wait_from place (wait_frame b c) ≡ (b && (c.place == place))
 wait-from place true c = refl
@@ -96,10 +96,10 @@ held-same : (schema : Schema) (sync : Side → ℤ → Bool) (reading : Reading)
 held-same schema sync reading k [] h = refl
 held-same schema sync reading k (line ∷ xs) h =
     ap (λ (b : Bool). option_to_list (if b then held_call schema line else None) ++ held_from schema reading (k + 1) xs) (h line.side k (omega arith) ∙ here-at (sync line.side) k line.side line.what xs)
-    ∙ ap (λ (hs : List Held). option_to_list (waiting_call schema sync line xs) ++ hs) (held-same schema sync reading (k + 1) xs (λ end j l. h end j (omega (arith, l)) ∙ elsewhere (sync end) end j k line xs (λ e. omega (arith, l, e))))
+    ∙ ap (λ (hs : List UnansweredCall). option_to_list (waiting_call schema sync line xs) ++ hs) (held-same schema sync reading (k + 1) xs (λ end j l. h end j (omega (arith, l)) ∙ elsewhere (sync end) end j k line xs (λ e. omega (arith, l, e))))
     ∙ one (waiting_call schema sync line xs) (waiting_calls_from schema sync xs)
   where
-    one : (o : Option Held) (hs : List Held) → option_to_list o ++ hs ≡ cons_option o hs
+    one : (o : Option UnansweredCall) (hs : List UnansweredCall) → option_to_list o ++ hs ≡ cons_option o hs
     one None hs = refl
     one (Some x) hs = refl
 

@@ -34,8 +34,9 @@ use Rattle.history_reading.specs.Reading.{after_what, end_reading_of, read}
 use Rattle.history_reading.specs.SentPacket.{Request, ReplyContent, SentPacket, said, resolved, rejected, ok, fault, request_of, says}
 use Rattle.history_reading.specs.Still.{DeferralState, awaited_head, awaited_level, can_deliver, can_take, can_take_now, deferral_of, defers_packet, defers_request_head, frame_head, head_of, inner_of_head, inner_transaction, is_open, is_still_at, some_is_free, takes_items}
 use Rattle.history_reading.specs.Waits as test
-use Rattle.history_reading.specs.Waits.{block_each_other, blocks, is_answered, is_end_event, is_failed, is_fault, is_own_fault, is_reply_in_order, own_returns, some_waits, some_waits_behind_end, waits_behind_end, waits_line, waits_moment, waits_while_still}
-use Rattle.law_statements.specs.Said.{is_moment, last_event, line_of, other_end, said_by}
+use Rattle.history_reading.specs.Waits.{block_each_other, blocks, is_answered, is_end_event, is_failed, is_fault, is_own_fault, is_reply_in_order, own_returns, some_waits, some_waits_after_end, waits_after_end, waits_line, waits_moment, waits_while_still}
+use Rattle.ipdl_base.specs.Sides.{other as other_end}
+use Rattle.law_statements.specs.Said.{is_moment, last_event, line_of, said_by}
 use Rattle.law_statements.specs.Packets.{delivered, failed, sent}
 use Rattle.law_statements.specs.Actors as actors
 use Rattle.law_statements.specs.Arrived.{IsArrived, state_after, state_of}
@@ -110,7 +111,7 @@ blocks-read schema end before st other =
     ap (λ (d : DeferralState). defers_request_head d (awaited_head schema (end_reading_of (other_end end) (read schema before)).stack)) (deferral-read schema end before st)
     ∙ ap (λ (fs : List CallFrame). defers_request_head (deferral schema end before) (awaited_head schema fs)) other
 
--- Where nothing but acts is possible
+-- Where only acts are possible
 
 open-is : (s : EndState) → Decides (is_open s) (s ≡ state.Open)
 open-is state.Open = (λ e. refl, λ e. refl)
@@ -237,8 +238,8 @@ unmoved-from false true false d h = refl
 moment : (schema : Schema) (before : List Line) → ((end : Side) → (end_reading_of end (read schema before)).stack ≡ stack schema end before) → Decides (waits_moment schema (read schema before)) (Moment schema before)
 moment schema before st =
     recast (waits_moment schema (read schema before))
-    (fails-then (block_each_other schema (read schema before).parent (read schema before).child) (if some_waits_behind_end (read schema before) then false else not (waits_while_still schema (read schema before)))
-    (fails-then (some_waits_behind_end (read schema before)) (not (waits_while_still schema (read schema before))) (itself (not (waits_while_still schema (read schema before)))))) to from
+    (fails-then (block_each_other schema (read schema before).parent (read schema before).child) (if some_waits_after_end (read schema before) then false else not (waits_while_still schema (read schema before)))
+    (fails-then (some_waits_after_end (read schema before)) (not (waits_while_still schema (read schema before))) (itself (not (waits_while_still schema (read schema before)))))) to from
   where
     bp : blocks schema side.Parent (read schema before).parent (read schema before).child ≡ defers_request_head (deferral schema side.Parent before) (awaited_head schema (stack schema side.Child before))
     bp = blocks-read schema side.Parent before (st side.Parent) (st side.Child)
@@ -252,7 +253,7 @@ moment schema before st =
     hc : has_unanswered (read schema before).child.stack ≡ has_unanswered (stack schema side.Child before)
     hc = ap has_unanswered (st side.Child)
 
-    ended-to : some_waits_behind_end (read schema before) ≡ false → (end : Side) → IsTrue (has_just_ended (said_by end before)) → NoneWaits schema end before
+    ended-to : some_waits_after_end (read schema before) ≡ false → (end : Side) → IsTrue (has_just_ended (said_by end before)) → NoneWaits schema end before
     ended-to e side.Parent t =
         sym hp ∙ (neither (is_end_event (read schema before).parent.event) (has_unanswered (read schema before).parent.stack) (is_end_event (read schema before).child.event) (has_unanswered (read schema before).child.stack) e).0 (just-ended schema side.Parent before ∙ t)
     ended-to e side.Child t =
@@ -266,7 +267,7 @@ moment schema before st =
         sym hc ∙ (unmoved (has_unanswered (read schema before).parent.stack) (has_unanswered (read schema before).child.stack) (is_still_at schema side.Parent (read schema before).parent (read schema before).child) (is_still_at schema side.Child (read schema before).child (read schema before).parent) e
         ((still schema side.Parent before (st side.Parent)).1 (s side.Parent)) ((still schema side.Child before (st side.Child)).1 (s side.Child))).1
 
-    to : (block_each_other schema (read schema before).parent (read schema before).child ≡ false) × ((some_waits_behind_end (read schema before) ≡ false) × IsTrue (not (waits_while_still schema (read schema before)))) → Moment schema before
+    to : (block_each_other schema (read schema before).parent (read schema before).child ≡ false) × ((some_waits_after_end (read schema before) ≡ false) × IsTrue (not (waits_while_still schema (read schema before)))) → Moment schema before
     to p = record {
       no_block = λ x y. (not-both (blocks schema side.Parent (read schema before).parent (read schema before).child) (blocks schema side.Child (read schema before).child (read schema before).parent)).0 p.0 (bp ∙ x) (bc ∙ y);
       ended = ended-to p.1.0;
@@ -277,7 +278,7 @@ moment schema before st =
     both-still i p c side.Parent = p
     both-still i p c side.Child = c
 
-    from : Moment schema before → (block_each_other schema (read schema before).parent (read schema before).child ≡ false) × ((some_waits_behind_end (read schema before) ≡ false) × IsTrue (not (waits_while_still schema (read schema before))))
+    from : Moment schema before → (block_each_other schema (read schema before).parent (read schema before).child ≡ false) × ((some_waits_after_end (read schema before) ≡ false) × IsTrue (not (waits_while_still schema (read schema before))))
     from m = (
       (not-both (blocks schema side.Parent (read schema before).parent (read schema before).child) (blocks schema side.Child (read schema before).child (read schema before).parent)).1 (λ x y. m.no_block (sym bp ∙ x) (sym bc ∙ y)),
       (
@@ -397,40 +398,40 @@ faulting schema end before n why =
 
 -- From the test to the statement, and back
 
-tested : (schema : Schema) (lines : List Line) → Passes law.Waits schema lines → (before : List Line) (end : Side) (w : What) (behind : List Line) → lines ≡ before ++ line_of end w ∷ behind
+tested : (schema : Schema) (lines : List Line) → Passes law.Waits schema lines → (before : List Line) (end : Side) (w : What) (following : List Line) → lines ≡ before ++ line_of end w ∷ following
     → IsTrue (waits_line schema (end_reading_of end (read schema before)) (end_reading_of (other_end end) (read schema before)) w)
-tested schema lines p before end w behind e =
-    subst (λ (o : EndReading). IsTrue (waits_line schema (end_reading_of end (read schema before)) o w)) (other-read end (read schema before)) (p.places before (line_of end w) behind e)
+tested schema lines p before end w following e =
+    subst (λ (o : EndReading). IsTrue (waits_line schema (end_reading_of end (read schema before)) o w)) (other-read end (read schema before)) (p.places before (line_of end w) following e)
 
-moment-of : (schema : Schema) (lines : List Line) → IsReadable schema lines → Passes law.Waits schema lines → (before behind : List Line) → lines ≡ before ++ behind → IsTrue (is_moment behind) → Moment schema before
+moment-of : (schema : Schema) (lines : List Line) → IsReadable schema lines → Passes law.Waits schema lines → (before following : List Line) → lines ≡ before ++ following → IsTrue (is_moment following) → Moment schema before
 unfolding moment_test
-moment-of schema lines r p before behind e m = (moment schema before (λ end. stack-read schema lines r end before behind e)).0 (p.moments before behind e m)
+moment-of schema lines r p before following e m = (moment schema before (λ end. stack-read schema lines r end before following e)).0 (p.moments before following e m)
 
 to : (schema : Schema) (lines : List Line) → IsReadable schema lines → Passes law.Waits schema lines → Waits schema lines
 to schema lines r p = record {
-  replies = λ end n before behind e. (in-order schema end before n (stack-read schema lines r end before (line_of end (what.DeliverReply n) ∷ behind) e)).0 (tested schema lines p before end (what.DeliverReply n) behind e);
-  fails = λ end n before behind e. (failing schema end before n (stack-read schema lines r end before (line_of end (what.Fails n) ∷ behind) e)).0 (tested schema lines p before end (what.Fails n) behind e);
-  answers = λ end n values before behind e. (answering schema end before n values).0 (tested schema lines p before end (what.ResumeOk n values) behind e);
-  faults = λ end n why before behind e. (faulting schema end before n why).0 (tested schema lines p before end (what.ResumeFault n why) behind e);
-  no_block = λ before behind e m. (moment-of schema lines r p before behind e m).no_block;
-  ended = λ end before behind e m. (moment-of schema lines r p before behind e m).ended end;
-  still = λ before behind e m. (moment-of schema lines r p before behind e m).still;
+  replies = λ end n before following e. (in-order schema end before n (stack-read schema lines r end before (line_of end (what.DeliverReply n) ∷ following) e)).0 (tested schema lines p before end (what.DeliverReply n) following e);
+  fails = λ end n before following e. (failing schema end before n (stack-read schema lines r end before (line_of end (what.Fails n) ∷ following) e)).0 (tested schema lines p before end (what.Fails n) following e);
+  answers = λ end n values before following e. (answering schema end before n values).0 (tested schema lines p before end (what.ResumeOk n values) following e);
+  faults = λ end n why before following e. (faulting schema end before n why).0 (tested schema lines p before end (what.ResumeFault n why) following e);
+  no_block = λ before following e m. (moment-of schema lines r p before following e m).no_block;
+  ended = λ end before following e m. (moment-of schema lines r p before following e m).ended end;
+  still = λ before following e m. (moment-of schema lines r p before following e m).still;
 }
 
-place : (schema : Schema) (lines : List Line) → IsReadable schema lines → Waits schema lines → (before : List Line) (end : Side) (w : What) (behind : List Line) → lines ≡ before ++ line_of end w ∷ behind
+place : (schema : Schema) (lines : List Line) → IsReadable schema lines → Waits schema lines → (before : List Line) (end : Side) (w : What) (following : List Line) → lines ≡ before ++ line_of end w ∷ following
     → IsTrue (waits_line schema (end_reading_of end (read schema before)) (end_reading_of (other_end end) (read schema before)) w)
-place schema lines r s before end (what.DeliverReply n) behind e = (in-order schema end before n (stack-read schema lines r end before (line_of end (what.DeliverReply n) ∷ behind) e)).1 (s.replies end n before behind e)
-place schema lines r s before end (what.Fails n) behind e = (failing schema end before n (stack-read schema lines r end before (line_of end (what.Fails n) ∷ behind) e)).1 (s.fails end n before behind e)
-place schema lines r s before end (what.ResumeOk n values) behind e = (answering schema end before n values).1 (s.answers end n values before behind e)
-place schema lines r s before end (what.ResumeFault n why) behind e = (faulting schema end before n why).1 (s.faults end n why before behind e)
-place schema lines r s before end _ behind e = refl
+place schema lines r s before end (what.DeliverReply n) following e = (in-order schema end before n (stack-read schema lines r end before (line_of end (what.DeliverReply n) ∷ following) e)).1 (s.replies end n before following e)
+place schema lines r s before end (what.Fails n) following e = (failing schema end before n (stack-read schema lines r end before (line_of end (what.Fails n) ∷ following) e)).1 (s.fails end n before following e)
+place schema lines r s before end (what.ResumeOk n values) following e = (answering schema end before n values).1 (s.answers end n values before following e)
+place schema lines r s before end (what.ResumeFault n why) following e = (faulting schema end before n why).1 (s.faults end n why before following e)
+place schema lines r s before end _ following e = refl
 
 back : (schema : Schema) (lines : List Line) → IsReadable schema lines → Waits schema lines → Passes law.Waits schema lines
 unfolding moment_test
 back schema lines r s = record {
-  places = λ before line behind e. subst (λ (o : EndReading). IsTrue (waits_line schema (end_reading_of line.side (read schema before)) o line.what)) (sym (other-read line.side (read schema before))) (place schema lines r s before line.side line.what behind e);
-  moments = λ before behind e m. (moment schema before (λ end. stack-read schema lines r end before behind e)).1
-      (record { no_block = s.no_block before behind e m; ended = λ end. s.ended end before behind e m; still = s.still before behind e m });
+  places = λ before line following e. subst (λ (o : EndReading). IsTrue (waits_line schema (end_reading_of line.side (read schema before)) o line.what)) (sym (other-read line.side (read schema before))) (place schema lines r s before line.side line.what following e);
+  moments = λ before following e m. (moment schema before (λ end. stack-read schema lines r end before following e)).1
+      (record { no_block = s.no_block before following e m; ended = λ end. s.ended end before following e m; still = s.still before following e m });
 }
 
 pub waits-to : (schema : Schema) (lines : List Line) → IsReadable schema lines → Holds law.Waits schema lines → Waits schema lines

@@ -1,4 +1,4 @@
--- Worked histories: the statements hold of them, and not of false neighbours.
+-- Worked histories: the statements are true of them, and not of false neighbours.
 use Rattle.std.proofs.Common.{◌≡◌, ℕ, ℤ, pos, negsuc, true, false, List, [], ◌∷◌, ◌++◌, map, Option, Some, None, refl, sym, ap, subst, ◌∙◌, arith}
 use Rattle.std.specs.Prelude.{codes}
 use Rattle.std.specs.Option.{option_map_or}
@@ -26,14 +26,14 @@ use Rattle.ipdl_base.specs.declared.value.Value.TheVariants as value
 use Rattle.ipdl_base.specs.declared.value.Values.{Values, First'}
 use Rattle.ipdl_base.specs.declared.value.Values.TheVariants.{Nothing}
 use Rattle.ipdl_base.specs.Plain.{one_box}
-use Rattle.history_reading.specs.declared.held.Held.{Held}
+use Rattle.history_reading.specs.declared.unanswered_call.UnansweredCall.{UnansweredCall}
 use Rattle.history_reading.specs.declared.parts.Cause.{Cause}
 use Rattle.history_reading.specs.Fallen.{is_next, lets_fall}
 use Rattle.history_reading.specs.Nulled.{is_nulled}
 use Rattle.history_reading.specs.Holds.{is_readable, moment_test, passes}
 use Rattle.history_reading.specs.Reading.{actor_place, without_first}
 use Rattle.history_reading.specs.SentPacket.{Request}
-use Rattle.history_reading.specs.Settled.{is_destroyed, promise_falls_next, resolves_missing, says_fallen}
+use Rattle.history_reading.specs.Settled.{is_destroyed, promise_falls_next, resolves_missing, reports_fallen}
 use Rattle.law_statements.specs.Said.{line_of, said_by}
 use Rattle.law_statements.specs.Actors.{built, lives}
 use Rattle.law_statements.specs.Calls.{waiting_calls}
@@ -51,7 +51,7 @@ use Rattle.law_statements.proofs.ReadableLines.{readable-to}
 use Rattle.law_statements.proofs.SettledLaw.{settled-to}
 use Rattle.law_statements.proofs.WaitsLaw.{waits-to}
 
--- a call that takes and returns a number, a constructor, and of what it makes a question with an answer
+-- a call that takes and returns a number, a constructor, and for the actor that it makes a question with an answer
 abbrev a_number : List ParamRow
 a_number = record { name = codes "r"; shape = Builtin word.Int32 } ∷ []
 
@@ -122,7 +122,7 @@ record AllHold (lines : List Line) : Type 0 where
   fallen : Fallen schema lines
 
 answered_holds : AllHold answered
-unfolding without_first actor_place is_next lets_fall promise_falls_next says_fallen resolves_missing is_destroyed passes moment_test is_readable
+unfolding without_first actor_place is_next lets_fall promise_falls_next reports_fallen resolves_missing is_destroyed passes moment_test is_readable
 answered_holds = record {
   readable = readable-to schema answered refl;
   prefix = prefix-to schema answered refl;
@@ -133,7 +133,7 @@ answered_holds = record {
 }
 
 closed_holds : AllHold closed
-unfolding without_first actor_place is_next lets_fall promise_falls_next says_fallen resolves_missing is_destroyed passes moment_test is_readable
+unfolding without_first actor_place is_next lets_fall promise_falls_next reports_fallen resolves_missing is_destroyed passes moment_test is_readable
 closed_holds = record {
   readable = readable-to schema closed refl;
   prefix = prefix-to schema closed refl;
@@ -144,7 +144,7 @@ closed_holds = record {
 }
 
 both_closed_hold : AllHold both_closed
-unfolding without_first actor_place is_next lets_fall promise_falls_next says_fallen resolves_missing is_destroyed passes moment_test is_readable
+unfolding without_first actor_place is_next lets_fall promise_falls_next reports_fallen resolves_missing is_destroyed passes moment_test is_readable
 both_closed_hold = record {
   readable = readable-to schema both_closed refl;
   prefix = prefix-to schema both_closed refl;
@@ -155,7 +155,7 @@ both_closed_hold = record {
 }
 
 -- the calls that wait, the older first, whichever end calls
-both_wait : map (λ (h : Held). h.head.seq) (waiting_calls schema (parent (what.Call (pos 1) (pos 1) top 0 (one (pos 7))) ∷ child (what.Call (negsuc 0) (negsuc 0) top 0 (one (pos 7))) ∷ [])) ≡ pos 1 ∷ negsuc 0 ∷ []
+both_wait : map (λ (h : UnansweredCall). h.head.seq) (waiting_calls schema (parent (what.Call (pos 1) (pos 1) top 0 (one (pos 7))) ∷ child (what.Call (negsuc 0) (negsuc 0) top 0 (one (pos 7))) ∷ [])) ≡ pos 1 ∷ negsuc 0 ∷ []
 both_wait = refl
 
 none_waits : waiting_calls schema answered ≡ []
@@ -165,9 +165,9 @@ none_waits = refl
 
 -- the second packet is delivered first
 skipped : Prefix schema (asked ++ child (what.DeliverRequest (pos 2)) ∷ []) → ⊥
-skipped p = cc ((p.fronts side.Child (asked ++ child (what.DeliverRequest (pos 2)) ∷ []) [] refl).1)
+skipped p = cc ((p.prefixes side.Child (asked ++ child (what.DeliverRequest (pos 2)) ∷ []) [] refl).1)
 
--- other values are taken than were sent
+-- values are taken that were not sent
 other_values : Prefix schema (called ++ child (what.Take (pos 1) top 0 (one (pos 9))) ∷ []) → ⊥
 other_values p = by ((p.takes side.Child (pos 1) top 0 (one (pos 9)) called [] refl).1)
   where
@@ -182,7 +182,7 @@ taken_twice p = false≢true (sym ((p.drops side.Child (pos 1) top 0 top (called
 no_reply : Prefix schema (asked ++ parent (what.TakeReply (pos 2)) ∷ []) → ⊥
 no_reply p = false≢true ((p.replies side.Parent (pos 2) asked [] refl).0)
 
--- an actor is asked that was never built, and one is built that no event makes
+-- a question is sent to an actor that was never built, and an actor is built that no event makes
 not_built : Living schema (parent (what.Send (pos 1) (pos 6) 65536 Nothing) ∷ []) → ⊥
 not_built l = false≢true (l.sends side.Parent (pos 1) (pos 6) 65536 Nothing [] [] refl)
 
@@ -193,21 +193,21 @@ wrong_id l = cc ((l.builds side.Parent (pos 10) 1 (parent (what.Send (pos 1) top
 dropped_alive : Living schema (called ++ child (what.Drop (pos 1) top 0 top) ∷ []) → ⊥
 dropped_alive l = false≢true (sym ((l.drops side.Child (pos 1) top 0 top called [] refl).0))
 
--- the outer wait is answered before the inner one, and a call goes on with what was not answered
+-- the outer wait is answered before the inner one, and a call continues with what was not answered
 abbrev called_twice : List Line
 called_twice = parent (what.Call (pos 1) (pos 1) top 0 (one (pos 7))) ∷ parent (what.Call (pos 2) (pos 1) top 0 (one (pos 7))) ∷ []
 
 out_of_order : Waits schema (called_twice ++ parent (what.DeliverReply (pos 1)) ∷ []) → ⊥
 out_of_order w = cc (w.replies side.Parent (pos 1) called_twice [] refl refl)
 
--- a call fails while the other end is there, or does not where its end is delivered
+-- a call fails while the other end is there, or does not fail when its last packet is delivered
 fails_early : Waits schema (called ++ parent (what.Fails (pos 1)) ∷ []) → ⊥
 fails_early w = false≢true ((w.fails side.Parent (pos 1) called [] refl).1)
 
 left_waiting : Waits schema (called ++ parent what.DeliverBroken ∷ []) → ⊥
 left_waiting w = false≢true (sym (w.ended side.Parent (called ++ parent what.DeliverBroken ∷ []) [] refl refl refl))
 
--- a call was handled and was not answered: nothing but acts is possible, and its end waits
+-- a call was handled and was not answered: only acts are possible, and its end waits
 abbrev unanswered : List Line
 unanswered = called ++ child (what.Take (pos 1) top 0 (one (pos 7))) ∷ child (what.Return (pos 1)) ∷ []
 
@@ -237,7 +237,7 @@ no_cause f =
     let cause : _ = (f.falls side.Parent (pos 6) destroy.NormalShutdown asked [] refl).cause in
     false≢true (subst (λ (c : Cause). LetsFall (built (said_by side.Parent asked)) c (pos 6) destroy.NormalShutdown) (sym (cause-read schema asked refl side.Parent asked [] refl cause.0)) cause.1)
 
--- of two actors that one event lets fall the younger falls first
+-- of two actors that fall in one event the younger falls first
 younger_first : Fallen schema (both_closed_with (falls (pos 10) ∷ falls (pos 6) ∷ [])) → ⊥
 younger_first f =
     (f.falls side.Parent (pos 6) destroy.NormalShutdown (both_closed_with (falls (pos 10) ∷ [])) [] refl).oldest (pos 10) destroy.NormalShutdown (both_closed_with []) [] refl refl (record {
@@ -254,7 +254,7 @@ younger_first f =
       one_manager = refl;
     })
 
--- what was not taken returns, and an effect stands first
+-- what was not taken returns, and an effect comes first
 not_taken : Readable schema (parent (what.Return (pos 1)) ∷ []) → ⊥
 not_taken r = let top_one : _ = r.returns side.Parent (pos 1) [] [] refl in cc (top_one.2)
 

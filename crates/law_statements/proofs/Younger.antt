@@ -1,4 +1,4 @@
--- Of two actors that were built, the test of places tells which is younger.
+-- The test of places decides which of two actors that were built is younger.
 use Rattle.std.proofs.Common.{◌≡◌, ℕ, ◌+◌, ◌<◌, nat_lt, ℤ, pos, Bool, true, false, not, ◌||◌, cond, List, [], ◌∷◌, ◌++◌, find, length, unwrap_or, Option, Some, None, option_map, refl, sym, ap, subst, ◌∙◌, append_assoc, arith}
 use Rattle.std.specs.List.{list_any, prefix_len}
 use Rattle.std.specs.Ordering.{int_eq}
@@ -16,7 +16,7 @@ use Rattle.law_statements.specs.Fallen.{IsYounger}
 use Rattle.law_statements.proofs.Fields.{built-add}
 use Rattle.law_statements.proofs.Lists.{add}
 
--- The first that passes
+-- The first element that passes
 
 abbrev first_place : {A : Type 0} → (A → Bool) → List A → ℕ
 first_place p xs = prefix_len (λ x. not (p x)) xs
@@ -51,17 +51,17 @@ split-first {A} p (x ∷ xs) e = by (p x) refl e (split-first p xs)
         let one : First p xs = more f in
         record { earlier = x ∷ one.earlier; here = one.here; later = one.later; split = ap (λ (ys : List A). x ∷ ys) one.split; none = ap (λ (b : Bool). b || list_any p one.earlier) is ∙ one.none; is = one.is }
 
--- of two splits of a list the one that is shorter before its place lies in the other
-behind-shorter : {A : Type 0} (xs ys xs' ys' : List A) (x y : A) → xs ++ x ∷ xs' ≡ ys ++ y ∷ ys' → length xs < length ys → (between : List A) × (ys ≡ xs ++ x ∷ between)
-behind-shorter xs [] xs' ys' x y e lt = absurd (omega (arith, lt))
-behind-shorter [] (b ∷ ys) xs' ys' x y e lt = (ys, ap (λ (z : _). z ∷ ys) cc)
-behind-shorter (a ∷ xs) (b ∷ ys) xs' ys' x y e lt =
+-- of two splits of a list, the one with the shorter beginning has its place within the beginning of the other
+following-shorter : {A : Type 0} (xs ys xs' ys' : List A) (x y : A) → xs ++ x ∷ xs' ≡ ys ++ y ∷ ys' → length xs < length ys → (between : List A) × (ys ≡ xs ++ x ∷ between)
+following-shorter xs [] xs' ys' x y e lt = absurd (omega (arith, lt))
+following-shorter [] (b ∷ ys) xs' ys' x y e lt = (ys, ap (λ (z : _). z ∷ ys) cc)
+following-shorter (a ∷ xs) (b ∷ ys) xs' ys' x y e lt =
     let less : length xs < length ys = omega (arith, lt) in
-    let more : (between : List _) × (ys ≡ xs ++ x ∷ between) = behind-shorter xs ys xs' ys' x y (cc) less in
+    let more : (between : List _) × (ys ≡ xs ++ x ∷ between) = following-shorter xs ys xs' ys' x y (cc) less in
     let same : b ≡ a = cc in
     (more.0, ap (λ (z : _). z ∷ ys) same ∙ ap (λ (zs : List _). a ∷ zs) more.1)
 
--- Where an actor stands
+-- The place of an actor
 
 place-at : (actors earlier later : List BuiltActor) (a : BuiltActor) (id : ℤ) → actors ≡ earlier ++ a ∷ later → was_built earlier id ≡ false → a.id ≡ id → actor_place actors id ≡ record { place = length earlier; manager = a.manager }
 unfolding actor_place
@@ -79,7 +79,7 @@ place-at actors earlier later a id split none same =
     is : int_eq a.id id ≡ true
     is = (Decides-int_eq a.id id).1 same
 
--- where an actor was built it stays
+-- an actor keeps the place where it was built
 pub place-stays : (actors more : List BuiltActor) (id : ℤ) → was_built actors id ≡ true → actor_place (actors ++ more) id ≡ actor_place actors id
 place-stays actors more id e =
     let f : First (λ (x : BuiltActor). int_eq x.id id) actors = split-first (λ (x : BuiltActor). int_eq x.id id) actors e in
@@ -91,7 +91,7 @@ added : {A : Type 0} (xs : List A) (o : Option A) → (more : List A) × (add xs
 added xs None = ([], sym (append-nil xs))
 added xs (Some x) = (x ∷ [], refl)
 
--- what was built stays, whatever is said next
+-- what was built stays, whatever is printed next
 pub built-grows : (said next : List What) → (more : List BuiltActor) × (built (said ++ next) ≡ built said ++ more)
 built-grows said [] = ([], ap built (append-nil said) ∙ sym (append-nil (built said)))
 built-grows said (w ∷ next) =
@@ -111,7 +111,7 @@ younger-to actors young old y o e =
     (ap (λ (p : ActorPlace). is_younger p (record { place = length g.earlier; manager = g.here.manager })) (sym (place-at actors f.earlier f.later f.here old f.split f.none is_old))
     ∙ ap (is_younger (actor_place actors old)) (sym (place-at actors g.earlier g.later g.here young g.split g.none is_young)) ∙ e) in
     let apart : (between : List BuiltActor) × (g.earlier ≡ f.earlier ++ f.here ∷ between) =
-    behind-shorter f.earlier g.earlier f.later g.later f.here g.here (sym f.split ∙ g.split) (ltb-true (length f.earlier) (length g.earlier) test.1) in
+    following-shorter f.earlier g.earlier f.later g.later f.here g.here (sym f.split ∙ g.split) (ltb-true (length f.earlier) (length g.earlier) test.1) in
     record {
       earlier = f.earlier;
       older = f.here;

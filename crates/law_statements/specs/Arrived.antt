@@ -1,4 +1,4 @@
--- What has arrived at an end and not left, and the state of an end, by what it said.
+-- What has arrived at an end and not left, and the state of an end, by its lines.
 use Rattle.std.specs.Prelude.{◌≡◌, ◌<◌, Bool, true, false, if◌then◌else◌, List, [], ◌++◌, reverse, count_by, filter_map, Option, Some, None, unwrap_or}
 use Rattle.std.specs.List.{list_any, slice_get}
 use Rattle.ipdl_base.specs.declared.kinds.EndState.{EndState}
@@ -52,15 +52,16 @@ is_giving_up (arrives p) = false
 is_giving_up (leaves p) = false
 is_giving_up gives_up = true
 
--- a packet has arrived and not left: from some place on, where nothing is given up any more, it arrives more often than it leaves
+-- a packet has arrived and not left: from some place on, after which nothing is given up, it arrives more often than
+-- it leaves
 pub record IsArrived (schema : Schema) (own : List What) (packet : PacketKind) : Type 0 where
   pub before : List Passing
-  pub behind : List Passing
-  pub split : passings schema own ≡ before ++ behind
-  pub kept : list_any is_giving_up behind ≡ false
-  pub more : count_by (is_leaving packet) behind < count_by (is_arrival packet) behind
+  pub following : List Passing
+  pub split : passings schema own ≡ before ++ following
+  pub kept : list_any is_giving_up following ≡ false
+  pub more : count_by (is_leaving packet) following < count_by (is_arrival packet) following
 
--- the state that a line leaves its end in, and the latest
+-- the state of an end after a line, and after all its lines
 abbrev pub state_after : What → Option EndState
 state_after what.DeliverGoodbye = Some state.Draining
 state_after what.DeliverBroken = Some state.Draining

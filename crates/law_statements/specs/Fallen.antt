@@ -1,4 +1,5 @@
--- What the law Fallen says: an actor falls once, after those that it manages, and only where a destructor or a closing lets it fall.
+-- The statement of the law Fallen: an actor falls once, after those that it manages, and only because of a destructor
+-- or a closing.
 use Rattle.std.specs.Prelude.{◌≡◌, ◌⊎◌, ℕ, ℤ, false, IsTrue, List, ◌∷◌, ◌++◌, Contains}
 use Rattle.std.specs.List.{list_all}
 use Rattle.ipdl_base.specs.declared.kinds.Destroy.{Destroy}
@@ -23,7 +24,8 @@ use Rattle.law_statements.specs.Actors.{built, fallen, last_actor, lives}
 use Rattle.law_statements.specs.Readable.{IsOfLastEvent}
 use Rattle.law_statements.specs.Stack.{stack}
 
--- why actors fall in an event: by the send of a destructor, by the return of one, which is handled on top, or by a closing
+-- why actors fall in an event: the send of a destructor, the return of the destructor that is handled on top, or a
+-- closing
 abbrev pub handled_cause : Schema → List CallFrame → Cause
 handled_cause schema (frame.Dispatch d ∷ below) = delete_cause schema d.number d.route
 handled_cause schema _ = cause.Nobody
@@ -41,7 +43,8 @@ pub data IsBelow : List BuiltActor → ℤ → ℤ → Type 0 where
   under : (actors earlier later : List BuiltActor) (a : BuiltActor) (id top : ℤ) → actors ≡ earlier ++ a ∷ later → a.id ≡ id → was_built later id ≡ false → a.manager ≡ top → IsBelow actors id top
   further : (actors earlier later : List BuiltActor) (a : BuiltActor) (id top : ℤ) → actors ≡ earlier ++ a ∷ later → a.id ≡ id → was_built later id ≡ false → IsBelow earlier a.manager top → IsBelow actors id top
 
--- of two actors of one manager the younger was built after the older; where an id was built twice, its first actor counts
+-- of two actors of one manager the younger was built after the older; where an id was built twice, its first actor
+-- counts
 pub record IsYounger (actors : List BuiltActor) (young old : ℤ) : Type 0 where
   pub earlier : List BuiltActor
   pub older : BuiltActor
@@ -55,7 +58,8 @@ pub record IsYounger (actors : List BuiltActor) (young old : ℤ) : Type 0 where
   pub is_first_young : was_built (earlier ++ older ∷ between) young ≡ false
   pub one_manager : younger.manager ≡ older.manager
 
--- a cause lets an actor fall for a reason: the destructor's actor by Deletion, those below it by AncestorDeletion, and all by that of a closing
+-- a cause makes an actor fall for a reason: the destructor's actor by Deletion, those below it by AncestorDeletion,
+-- and all actors by the reason of a closing
 abbrev pub LetsFall : List BuiltActor → Cause → ℤ → Destroy → Type 0
 LetsFall actors cause.Nobody id why = IsTrue false
 LetsFall actors (cause.Delete top) id why = ((why ≡ destroy.Deletion) × (id ≡ top)) ⊎ ((why ≡ destroy.AncestorDeletion) × IsBelow actors id top)
@@ -64,20 +68,20 @@ LetsFall actors (cause.Closing reason) id why = why ≡ reason
 -- an actor may fall: it lives
 pub record MayFall (schema : Schema) (end : Side) (before : List Line) (id : ℤ) (why : Destroy) : Type 0 where
   pub alive : IsTrue (lives (said_by end before) id)
-  -- all that it manages have fallen
+  -- all actors that it manages have fallen
   pub managed : (a : BuiltActor) → Contains (built (said_by end before)) a → a.manager ≡ id → IsTrue (has (fallen (said_by end before)) a.id)
-  -- none that has fallen after the last event is younger than it
+  -- no actor that has fallen after the last event is younger than it
   pub oldest : (other : ℤ) (reason : Destroy) (earlier effects : List Line) → before ≡ earlier ++ line_of end (what.Fall other reason) ∷ effects → IsTrue (list_all (λ line. is_effect line.what) effects)
       → IsYounger (built (said_by end before)) other id → ⊥
-  -- and the last event lets it fall for this reason
+  -- the last event makes it fall for this reason
   pub cause : (place : IsOfLastEvent end before) × LetsFall (built (said_by end before)) (cause_of schema (stack schema end place.before) place.event) id why
 
 pub record Fallen (schema : Schema) (lines : List Line) : Type 0 where
-  -- nobody is built under an actor that has fallen
-  pub builds : (end : Side) (id : ℤ) (protocol : ℕ) (before behind : List Line) → lines ≡ before ++ line_of end (what.Built id protocol) ∷ behind
+  -- no actor is built under an actor that has fallen
+  pub builds : (end : Side) (id : ℤ) (protocol : ℕ) (before following : List Line) → lines ≡ before ++ line_of end (what.Built id protocol) ∷ following
       → has (fallen (said_by end before)) (last_actor (said_by end before)) ≡ false
   -- an actor that falls may do so
-  pub falls : (end : Side) (id : ℤ) (why : Destroy) (before behind : List Line) → lines ≡ before ++ line_of end (what.Fall id why) ∷ behind → MayFall schema end before id why
+  pub falls : (end : Side) (id : ℤ) (why : Destroy) (before following : List Line) → lines ≡ before ++ line_of end (what.Fall id why) ∷ following → MayFall schema end before id why
   -- at each moment all actors of an end that has closed have fallen
-  pub closings : (end : Side) (a : BuiltActor) (before behind : List Line) → lines ≡ before ++ behind → IsTrue (is_moment behind) → IsTrue (has_closed (said_by end before))
+  pub closings : (end : Side) (a : BuiltActor) (before following : List Line) → lines ≡ before ++ following → IsTrue (is_moment following) → IsTrue (has_closed (said_by end before))
       → Contains (built (said_by end before)) a → IsTrue (has (fallen (said_by end before)) a.id)

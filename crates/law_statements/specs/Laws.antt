@@ -29,11 +29,11 @@ DecidesFallen = (schema : Schema) (lines : List Line) → IsReadable schema line
 abbrev pub DecidesWaits : Type 0
 DecidesWaits = (schema : Schema) (lines : List Line) → IsReadable schema lines → (Holds law.Waits schema lines ↔ Waits schema lines)
 
--- the test of readable lists of lines decides what they are
+-- the test of readable lines decides what readable lines are
 abbrev pub DecidesReadable : Type 0
 DecidesReadable = (schema : Schema) (lines : List Line) → IsReadable schema lines ↔ Readable schema lines
 
--- behind readable lines the chain is the list of the calls that wait
+-- after readable lines the chain is the list of the calls that wait
 abbrev pub DecidesChain : Type 0
 DecidesChain = (schema : Schema) (lines : List Line) → IsReadable schema lines → chain_of schema lines ≡ waiting_calls schema lines
 

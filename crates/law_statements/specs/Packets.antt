@@ -1,4 +1,4 @@
--- What an end has sent and what was delivered to it, as lists made of what it said, in order.
+-- What an end has sent and what was delivered to it, as lists made from its lines, in order.
 use Rattle.std.specs.Prelude.{ℕ, ◌+◌, ℤ, pos, Bool, true, false, if◌then◌else◌, List, [], count_by, filter_map, Option, Some, None}
 use Rattle.std.specs.List.{list_any}
 use Rattle.ipdl_base.specs.declared.line.What.{What}
@@ -11,25 +11,25 @@ use Rattle.history_reading.specs.Rows.{is_constructor, is_sync_number, wants_num
 use Rattle.history_reading.specs.SentPacket.{Request, SentPacket, request, said, goodbye, broken, resolved, rejected, ok, fault}
 use Rattle.law_statements.specs.Said.{made_of}
 
--- whether what is said makes an actor: a send or call of a constructor
+-- whether a line makes an actor: the send or call of a constructor
 abbrev pub constructs : Schema → What → Bool
 constructs schema (what.Send n route number values) = is_constructor schema number
 constructs schema (what.Call n transaction route number values) = is_constructor schema number
 constructs schema _ = false
 
--- the request of a send or call: it makes the next actor of its sender where it is of a constructor
+-- the request of a send or call; a constructor makes the next actor of its sender
 abbrev pub request_at : Schema → List What → ℤ → ℤ → ℤ → ℕ → Values → Request
 request_at schema before n transaction route number values =
     record { seq = n; transaction = transaction; sync = is_sync_number schema number; wants = wants_number schema number; route = route; number = number; made = if is_constructor schema number then count_by (constructs schema) before + 1 else 0; values = values }
 
--- whether it is the goodbye of an end, or the delivery of an end of the channel
+-- whether a line is the close of an end, or the delivery of the other end's last packet
 abbrev pub is_farewell : What → Bool
 is_farewell what.Close = true
 is_farewell what.DeliverGoodbye = true
 is_farewell what.DeliverBroken = true
 is_farewell _ = false
 
--- the packet that is sent: the mark of a death only where no end of the channel was before
+-- the packet that a line sends: a death sends the mark only if there was no such line before
 abbrev pub sent_at : Schema → List What → What → Option SentPacket
 sent_at schema before (what.Send n route number values) = Some (request (request_at schema before n (pos 0) route number values))
 sent_at schema before (what.Call n transaction route number values) = Some (request (request_at schema before n transaction route number values))
@@ -44,7 +44,7 @@ sent_at schema before _ = None
 abbrev pub sent : Schema → List What → List SentPacket
 sent schema own = made_of (sent_at schema) [] own
 
--- what deliveries show
+-- what the line of a delivery shows
 abbrev pub delivery : What → Option PacketKind
 delivery (what.DeliverRequest n) = Some (seen.Request n)
 delivery (what.DeliverReply n) = Some (seen.Reply n)
@@ -64,7 +64,7 @@ number_gone _ = None
 abbrev pub gone : List What → List ℤ
 gone own = filter_map number_gone own
 
--- of those that were replaced
+-- the numbers of the requests that were replaced
 abbrev pub number_replaced : What → Option ℤ
 number_replaced (what.Replaced n) = Some n
 number_replaced _ = None
@@ -72,7 +72,7 @@ number_replaced _ = None
 abbrev pub replaced : List What → List ℤ
 replaced own = filter_map number_replaced own
 
--- of the replies that were taken
+-- the numbers of the requests whose replies were taken
 abbrev pub number_of_reply : What → Option ℤ
 number_of_reply (what.TakeReply n) = Some n
 number_of_reply _ = None
@@ -80,7 +80,7 @@ number_of_reply _ = None
 abbrev pub replies : List What → List ℤ
 replies own = filter_map number_of_reply own
 
--- of the calls that failed
+-- the numbers of the calls that failed
 abbrev pub number_failed : What → Option ℤ
 number_failed (what.Fails n) = Some n
 number_failed _ = None
@@ -88,7 +88,7 @@ number_failed _ = None
 abbrev pub failed : List What → List ℤ
 failed own = filter_map number_failed own
 
--- and of the promises that were settled
+-- the numbers of the promises that were settled
 abbrev pub number_settled : What → Option ℤ
 number_settled (what.Resolved n values) = Some n
 number_settled (what.Rejected n reason) = Some n

@@ -43,12 +43,12 @@ abbrev pub IsAnswerOnTop : Schema → Side → List Line → ℤ → Type 0
 IsAnswerOnTop schema end before n = (c : Call) × (below : List CallFrame) × (stack schema end before ≡ frame.Answered c ∷ below) × (c.seq ≡ n)
 
 pub record Readable (schema : Schema) (lines : List Line) : Type 0 where
-  -- an effect has the end of the last event
-  pub effects : (end : Side) (what : What) (before behind : List Line) → lines ≡ before ++ line_of end what ∷ behind → IsTrue (is_effect what) → IsOfLastEvent end before
-  -- a message that a line names is one of the schema
-  pub messages : (end : Side) (what : What) (number : ℕ) (before behind : List Line) → lines ≡ before ++ line_of end what ∷ behind → message_in what ≡ Some number → IsTrue (is_request_number schema number)
+  -- an effect is on the side of the last event
+  pub effects : (end : Side) (what : What) (before following : List Line) → lines ≡ before ++ line_of end what ∷ following → IsTrue (is_effect what) → IsOfLastEvent end before
+  -- a message that a line names is in the schema
+  pub messages : (end : Side) (what : What) (number : ℕ) (before following : List Line) → lines ≡ before ++ line_of end what ∷ following → message_in what ≡ Some number → IsTrue (is_request_number schema number)
   -- a return ends the request that is handled on top
-  pub returns : (end : Side) (n : ℤ) (before behind : List Line) → lines ≡ before ++ line_of end (what.Return n) ∷ behind → IsDispatchOnTop schema end before n
-  -- a call that goes on is the answered wait on top
-  pub resumes : (end : Side) (n : ℤ) (values : Values) (before behind : List Line) → lines ≡ before ++ line_of end (what.ResumeOk n values) ∷ behind → IsAnswerOnTop schema end before n
-  pub faults : (end : Side) (n : ℤ) (why : Reason) (before behind : List Line) → lines ≡ before ++ line_of end (what.ResumeFault n why) ∷ behind → IsAnswerOnTop schema end before n
+  pub returns : (end : Side) (n : ℤ) (before following : List Line) → lines ≡ before ++ line_of end (what.Return n) ∷ following → IsDispatchOnTop schema end before n
+  -- a call that continues is the answered wait on top
+  pub resumes : (end : Side) (n : ℤ) (values : Values) (before following : List Line) → lines ≡ before ++ line_of end (what.ResumeOk n values) ∷ following → IsAnswerOnTop schema end before n
+  pub faults : (end : Side) (n : ℤ) (why : Reason) (before following : List Line) → lines ≡ before ++ line_of end (what.ResumeFault n why) ∷ following → IsAnswerOnTop schema end before n

@@ -1,4 +1,4 @@
--- What the law Waits says: waits end in order and by what was said, and two waits never block each other.
+-- The statement of the law Waits: waits end in order and with what was sent, and two waits never block each other.
 use Rattle.std.specs.Prelude.{◌≡◌, ◌⊎◌, ◌≤◌, ℤ, Bool, true, false, IsTrue, List, [], ◌∷◌, ◌++◌, length, filter_map, Contains, Option, Some, is_some, option_and_then}
 use Rattle.std.specs.List.{slice_get}
 use Rattle.std.specs.Option.{option_map_or}
@@ -25,13 +25,14 @@ use Rattle.history_reading.specs.Nulled.{is_nulled, missing}
 use Rattle.history_reading.specs.Numbers.{has}
 use Rattle.history_reading.specs.SentPacket.{fault, ok, request_of, said}
 use Rattle.history_reading.specs.Still.{DeferralState, awaited_head, awaited_level, call_head, can_take_now, defers, defers_request_head, head_of, inner_of_head, takes_items}
-use Rattle.law_statements.specs.Said.{is_moment, last_event, line_of, other_end, said_by}
+use Rattle.ipdl_base.specs.Sides.{other as other_end}
+use Rattle.law_statements.specs.Said.{is_moment, last_event, line_of, said_by}
 use Rattle.law_statements.specs.Packets.{delivered, failed, sent}
 use Rattle.law_statements.specs.Actors.{lives}
 use Rattle.law_statements.specs.Stack.{is_sync_of, stack}
 use Rattle.law_statements.specs.Arrived.{IsArrived, state_of}
 
--- whether the last event is the delivery of the end of the other end
+-- whether the last event is the delivery of the other end's last packet
 abbrev pub ends_channel : What → Bool
 ends_channel what.DeliverGoodbye = true
 ends_channel what.DeliverBroken = true
@@ -44,7 +45,8 @@ has_just_ended own = option_map_or ends_channel (last_event own) false
 abbrev pub returns_for : Schema → List What → ℤ → List ParamRow
 returns_for schema own n = option_map_or (λ r. returns_of schema r.number) (request_of (sent schema own) n) []
 
--- the other end has answered a call with values that are these, but for dead actors that are null, or with values in which an actor is missing, or with a fault
+-- the other end has answered a call with these values, except that dead actors are null; or with values in which an
+-- actor is missing; or with a fault
 abbrev pub HasAnswered : Schema → List What → List What → ℤ → Values → Type 0
 HasAnswered schema own other n values = (given : Values) × Contains (sent schema other) (said n (ok given)) × IsTrue (is_nulled schema (lives own) (returns_for schema own n) given values)
 
@@ -56,7 +58,7 @@ HasFault schema own other n why =
     Contains (sent schema other) (said n (fault why))
     ⊎ (((why ≡ reason.ChannelClosed) × IsTrue (has (failed own) n)) ⊎ ((why ≡ reason.ActorDestroyed) × HasAnsweredMissing schema own other n))
 
--- the head of a frame: of a wait by its own line, of a dispatch by the request of the other end
+-- the head of a frame: for a wait from its own line, for a dispatch from the request of the other end
 abbrev pub sent_head : Schema → List What → ℤ → Option Head
 sent_head schema other n = option_and_then (λ r. head_of schema r.number n r.transaction) (request_of (sent schema other) n)
 
@@ -83,7 +85,7 @@ defers_kind schema end lines seen.Broken = defers (deferral schema end lines) ma
 abbrev pub Blocks : Schema → Side → List Line → Type 0
 Blocks schema end lines = IsTrue (defers_request_head (deferral schema end lines) (awaited_head schema (stack schema (other_end end) lines)))
 
--- nothing but acts is possible at an end: no delivery, no return and no call that goes on, no packet that is taken
+-- only acts are possible at an end: no delivery, no return, no call that continues, and no take
 pub record IsStillAt (schema : Schema) (end : Side) (lines : List Line) : Type 0 where
   pub delivered : state_of (said_by end lines) ≡ state.Open → length (sent schema (said_by (other_end end) lines)) ≤ length (delivered (said_by end lines))
   pub waiting : IsTrue (can_take_now (stack schema end lines))
@@ -95,20 +97,20 @@ NoneWaits schema end lines = has_unanswered (stack schema end lines) ≡ false
 
 pub record Waits (schema : Schema) (lines : List Line) : Type 0 where
   -- the reply to a sync request finds its wait innermost
-  pub replies : (end : Side) (n : ℤ) (before behind : List Line) → lines ≡ before ++ line_of end (what.DeliverReply n) ∷ behind
+  pub replies : (end : Side) (n : ℤ) (before following : List Line) → lines ≡ before ++ line_of end (what.DeliverReply n) ∷ following
       → IsTrue (is_sync_of schema (said_by end before) n) → awaited (stack schema end before) ≡ Some n
-  -- a call fails where its wait is innermost and the end of the other end has just been delivered
-  pub fails : (end : Side) (n : ℤ) (before behind : List Line) → lines ≡ before ++ line_of end (what.Fails n) ∷ behind
+  -- a call fails where its wait is innermost and the other end's last packet has just been delivered
+  pub fails : (end : Side) (n : ℤ) (before following : List Line) → lines ≡ before ++ line_of end (what.Fails n) ∷ following
       → (awaited (stack schema end before) ≡ Some n) × IsTrue (has_just_ended (said_by end before))
-  -- a call goes on with values that the other end has answered
-  pub answers : (end : Side) (n : ℤ) (values : Values) (before behind : List Line) → lines ≡ before ++ line_of end (what.ResumeOk n values) ∷ behind
+  -- a call continues with values that the other end has answered
+  pub answers : (end : Side) (n : ℤ) (values : Values) (before following : List Line) → lines ≡ before ++ line_of end (what.ResumeOk n values) ∷ following
       → HasAnswered schema (said_by end before) (said_by (other_end end) before) n values
-  -- or with a fault that the other end has said, or that came of itself
-  pub faults : (end : Side) (n : ℤ) (why : Reason) (before behind : List Line) → lines ≡ before ++ line_of end (what.ResumeFault n why) ∷ behind
+  -- or with a fault that the other end has sent, or that arises at this end
+  pub faults : (end : Side) (n : ℤ) (why : Reason) (before following : List Line) → lines ≡ before ++ line_of end (what.ResumeFault n why) ∷ following
       → HasFault schema (said_by end before) (said_by (other_end end) before) n why
   -- at no moment does each end defer the call for which the other waits
-  pub no_block : (before behind : List Line) → lines ≡ before ++ behind → IsTrue (is_moment behind) → Blocks schema side.Parent before → Blocks schema side.Child before → IsTrue false
-  -- at each moment where the end of the other end was delivered last, nobody waits
-  pub ended : (end : Side) (before behind : List Line) → lines ≡ before ++ behind → IsTrue (is_moment behind) → IsTrue (has_just_ended (said_by end before)) → NoneWaits schema end before
-  -- at each moment where nothing but acts is possible, nobody waits
-  pub still : (before behind : List Line) → lines ≡ before ++ behind → IsTrue (is_moment behind) → ((end : Side) → IsStillAt schema end before) → (end : Side) → NoneWaits schema end before
+  pub no_block : (before following : List Line) → lines ≡ before ++ following → IsTrue (is_moment following) → Blocks schema side.Parent before → Blocks schema side.Child before → IsTrue false
+  -- at each moment where the other end's last packet was delivered last, no call waits
+  pub ended : (end : Side) (before following : List Line) → lines ≡ before ++ following → IsTrue (is_moment following) → IsTrue (has_just_ended (said_by end before)) → NoneWaits schema end before
+  -- at each moment where only acts are possible, no call waits
+  pub still : (before following : List Line) → lines ≡ before ++ following → IsTrue (is_moment following) → ((end : Side) → IsStillAt schema end before) → (end : Side) → NoneWaits schema end before

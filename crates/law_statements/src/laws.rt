@@ -1,3 +1,4 @@
+//! Each law holds of readable lines exactly where its statement does.
 ghost use Rattle.law_statements.specs.Laws.{DecidesChain, DecidesFallen, DecidesLiving, DecidesPrefix, DecidesReadable, DecidesSettled, DecidesWaits, LawsWantReadable};
 
 /// The law Prefix holds of readable lines exactly where its statement does.
@@ -25,12 +26,12 @@ pub fn decides_waits()
     ensures { DecidesWaits }
 {}
 
-/// Lines can be read exactly where the statement of that does.
+/// The test of readable lines decides what readable lines are.
 pub fn decides_readable()
     ensures { DecidesReadable }
 {}
 
-/// The chain behind readable lines is the list of their calls that wait.
+/// The chain after readable lines is the list of their calls that wait.
 pub fn decides_chain()
     ensures { DecidesChain }
 {}

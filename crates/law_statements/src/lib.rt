@@ -1,5 +1,6 @@
-//! What the five laws of histories say, as statements on the lines of a history that keep no state
-//! (docs/laws.md), and that the tests of `history_reading` decide them. No function that runs.
+//! The five laws of histories as statements on the lines of a history, without any state (docs/laws.md). The
+//! tests of
+//! `history_reading` decide them. No function of this crate computes anything.
 #![tactic(auto)]
 
 mod laws;

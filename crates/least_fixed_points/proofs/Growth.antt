@@ -59,7 +59,7 @@ still x n marks within h = go (eqb_tells n x)
 pub Marks-old : (x : ℕ) (marks : List Bool) (work : List ℕ) → IsMarked marks x → Marks x marks work marks work
 Marks-old x marks work has = record { grows = Grows-none marks work; marked = has; only = λ k h. inl h }
 
--- a node that had none, and joins the work
+-- a node that had no mark is added to the work
 pub Marks-new : (x : ℕ) (marks : List Bool) (work : List ℕ) → x < length marks → slice_index_or marks x false ≡ false → Marks x marks work (slice_set marks x true) (work ++ x ∷ [])
 Marks-new x marks work within bare =
     let now : IsMarked (slice_set marks x true) x = get_or-set_same marks x true false within in
@@ -83,7 +83,7 @@ Marks-new x marks work within bare =
 
 -- Waiting
 
--- what waits for these waits for those
+-- a need that waits for parts with a property waits for parts with a weaker property
 pub WaitsFor-like : (need : Need) (parts : List ℕ) (P Q : ℕ → Type 0) → ((part : ℕ) → Contains parts part → P part → Q part) → WaitsFor need parts P → WaitsFor need parts Q
 WaitsFor-like All parts P Q to w = (w.0, w.1, to w.0 w.1 w.2)
 WaitsFor-like One parts P Q to w = λ part has. to part has (w part has)
@@ -98,7 +98,7 @@ IsOpen-grown a u b v grows part open_part = elim open_part [
   ]
 ]
 
--- and a settled node settled
+-- a settled node stays settled
 pub IsSettled-grown : (nodes : List Node) (a : List Bool) (u : List ℕ) (b : List Bool) (v : List ℕ) → Grows a u b v → (user : ℕ) → IsSettled nodes a u user → IsSettled nodes b v user
 IsSettled-grown nodes a u b v grows user settled = elim settled [
   | inl m ↦ inl (grows.kept user m)

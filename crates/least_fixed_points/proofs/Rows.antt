@@ -23,7 +23,7 @@ slice_get-set_other (y ∷ xs) zero (suc j) x ne = refl
 slice_get-set_other (y ∷ xs) (suc k) zero x ne = refl
 slice_get-set_other (y ∷ xs) (suc k) (suc j) x ne = slice_get-set_other xs k j x (λ e. ne (ap suc e))
 
--- one user more in a row
+-- one more user in a row
 pub AddsUser-push : (part user : ℕ) (rows : List (Vec ℕ Global)) (row new : Vec ℕ Global) → part < length rows → slice_get rows part ≡ Some row → new.items ≡ row.items ++ user ∷ [] → AddsUser part user rows (slice_set rows part new)
 AddsUser-push part user rows row new below there more = record {
   size = length-set rows part new;
@@ -129,7 +129,7 @@ slice_get-last : {X : Type 0} (xs : List X) (y : X) → slice_get (xs ++ y ∷ [
 slice_get-last [] y = refl
 slice_get-last (z ∷ xs) y = slice_get-last xs y
 
--- the rows have the users of these nodes, of so many
+-- the rows have the users of these nodes, which are among this number of nodes
 pub record AreUsersOf (count : ℕ) (nodes : List Node) (rows : List (Vec ℕ Global)) : Type 0 where
   pub size : length rows ≡ count
   pub exact : (p u : ℕ) → HasUser rows p u ↔ ((p < count) × HasPart nodes u p)
@@ -140,7 +140,7 @@ AreUsersOf-none count rows size none = record {
   exact = λ p u. (λ h. absurd (none p u h), λ h. let is = h.1.1 in let no : ⊥ = cc in absurd no);
 }
 
--- and those of one more node
+-- the users of one more node
 pub AreUsersOf-more : (count : ℕ) (nodes : List Node) (i : ℕ) (d : Node) (a b : List (Vec ℕ Global)) → i < length nodes → AreUsersOf count (take i nodes) a → AddsUsers (get_or nodes i d).parts.items i a b → AreUsersOf count (take (i + 1) nodes) b
 AreUsersOf-more count nodes i d a b below old adds =
     let y = get_or nodes i d in

@@ -18,18 +18,18 @@ use Rattle.least_fixed_points.proofs.Growth.{Visits-settled, Visits-marked}
 abbrev pub AreMarkedTo : List Bool → List ℕ → ℕ → Type 0
 AreMarkedTo marks parts to = (j : ℕ) → j < to → j < length parts → IsMarked marks (slice_index parts j)
 
--- what was known to be marked, and what was passed
+-- the parts up to an index are marked: those that were known to be, and those that were passed
 pub marked_to : (nodes : List Node) (x : ℕ) (node : Node) (to : ℕ) (marks : List Bool) (seen : List ℕ) → Knows nodes marks seen → slice_get nodes x ≡ Some node
     → ((j : ℕ) → slice_index seen x ≤ j → j < to → j < length node.parts.items → IsMarked marks (slice_index node.parts.items j)) → AreMarkedTo marks node.parts.items to
 marked_to nodes x node to marks seen knows at passed j below within = elim (cases_lt j (slice_index seen x)) [
   | inl before ↦ knows.seen_marked x node j at before within
-  | inr behind ↦ passed j behind below within
+  | inr following ↦ passed j following below within
 ]
 
 same_node : (nodes : List Node) (x : ℕ) (one other : Node) → slice_get nodes x ≡ Some one → slice_get nodes x ≡ Some other → one ≡ other
 same_node nodes x one other p q = let e : Some one ≡ Some other = sym p ∙ q in let same : one ≡ other = cc in same
 
--- more is seen of one node
+-- more parts of one node are seen
 Knows-seen : (nodes : List Node) (x : ℕ) (node : Node) (to : ℕ) (marks : List Bool) (seen : List ℕ) → Knows nodes marks seen → slice_get nodes x ≡ Some node → AreMarkedTo marks node.parts.items to → Knows nodes marks (slice_set seen x to)
 Knows-seen nodes x node to marks seen knows at marked = record {
   size = knows.size;
@@ -66,7 +66,7 @@ Visits-open nodes x node to marks work seen knows at need within bare marked =
     let part = slice_index node.parts.items to in
     subst P same (subst Q (sym need) (part, (to, within, get_or_default node.parts.items to part 0 within), inl bare))))
 
--- all parts are marked, and so is the node now
+-- all parts are marked, and now the node is too
 pub Visits-full : (nodes : List Node) (x : ℕ) (node : Node) (to : ℕ) (a : List Bool) (u : List ℕ) (b : List Bool) (v seen : List ℕ) → Knows nodes a seen → slice_get nodes x ≡ Some node → node.need ≡ All
     → length node.parts.items ≤ to → AreMarkedTo a node.parts.items to → Marks x a u b v
     → Visits nodes (x ∷ []) a u b v (slice_set seen x to)

@@ -1,4 +1,5 @@
--- Marking to the end: what is known while users are visited, and why marks without work left are exactly what is derived.
+-- Marking to the end: what is known while users are visited, and why the marks are exactly the derived nodes when no
+-- work is left.
 use Rattle.std.proofs.Common.{◌≡◌, ◌≢◌, ◌⊎◌, ◌∙◌, inl, inr, ◌<◌, ◌+◌, ℕ, zero, suc, Bool, true, false, List, [], ◌∷◌, ◌++◌, length, take, get_or, Some, refl, sym, ap, subst, arith, eqb}
 use Rattle.std.specs.Prelude.{◌↔◌, slice_get}
 use Rattle.std.specs.List.{Contains, slice_index_or}
@@ -17,7 +18,7 @@ use Rattle.least_fixed_points.specs.Marking.{AreUsers, IsMarked, WaitsFor, IsOpe
 use Rattle.least_fixed_points.specs.Starting.{NeedsAll}
 use Rattle.least_fixed_points.proofs.Growth.{the_one, has_one, marked_within, WaitsFor-like, IsOpen-grown}
 
--- What is known when no user waits to be visited but those of the nodes in the work.
+-- What is known when only the users of the nodes in the work wait to be visited.
 pub record Working (nodes : List Node) (rows : List (Vec ℕ Global)) (marks : List Bool) (work seen : List ℕ) : Type 0 where
   pub users : AreUsers nodes rows
   pub knows : Knows nodes marks seen
@@ -44,7 +45,7 @@ is_in (x ∷ xs) n = go (eqb_tells x n) (is_in xs n)
         out zero below e = ne.1 e
         out (suc k) below e = none (k, omega (arith, below), e)
 
--- at first the nodes that need all of their parts are visited
+-- first the nodes that need all of their parts are visited
 pub Working-first : (nodes : List Node) (rows : List (Vec ℕ Global)) (starters : List ℕ) (a b : List Bool) (work seen : List ℕ) → AreUsers nodes rows → ((k : ℕ) → ¬ IsMarked a k) → ((k : ℕ) → Contains starters k ↔ NeedsAll nodes k)
     → Visits nodes starters a [] b work seen → Working nodes rows b work seen
 Working-first nodes rows starters a b work seen users bare exact visits = record {

@@ -1,10 +1,11 @@
--- What follows from what: the least set of nodes that is closed under what each node needs.
+-- Derivations: the least set of nodes that is closed under what each node needs.
 use Rattle.std.specs.Prelude.{◌≡◌, ◌↔◌, ℕ, true, Bool, List, length, slice_get, Some}
 use Rattle.std.specs.List.{Contains}
 use Rattle.least_fixed_points.specs.declared.nodes.Need.TheVariants.{All, One}
 use Rattle.least_fixed_points.specs.declared.nodes.Node.{Node}
 
--- A node is derived, by a finite derivation: one that needs all of its parts where all of them are, one that needs one of them where one is.
+-- A node is derived, by a finite derivation: one that needs all of its parts if all of them are, and one that needs
+-- one of its parts if one is.
 pub data IsDerived (nodes : List Node) : ℕ → Type 0 where
   all : {k : ℕ} (node : Node) → slice_get nodes k ≡ Some node → node.need ≡ All → ((part : ℕ) → Contains node.parts.items part → IsDerived nodes part) → IsDerived nodes k
   one : {k : ℕ} (node : Node) (part : ℕ) → slice_get nodes k ≡ Some node → node.need ≡ One → Contains node.parts.items part → IsDerived nodes part → IsDerived nodes k

@@ -1,4 +1,4 @@
--- Where marking begins.
+-- The nodes with which marking begins.
 use Rattle.std.specs.Prelude.{◌≡◌, ℕ, List, slice_get, Some}
 use Rattle.least_fixed_points.specs.declared.nodes.Need.TheVariants.{All}
 use Rattle.least_fixed_points.specs.declared.nodes.Node.{Node}

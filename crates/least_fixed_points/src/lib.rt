@@ -1,4 +1,4 @@
-//! Least sets: which nodes are derived, where each needs all of its parts or one of them.
+//! Least fixed points: the nodes that are derived if each needs all of its parts or one of them.
 #![tactic(auto)]
 
 mod marking;

@@ -1,3 +1,5 @@
+//! Marks the nodes that are derived, by a list of work.
+
 ghost use Rattle.std.specs.Prelude.{◌≡◌, ◌↔◌, ◌<◌, ◌≤◌, ◌∷◌, [], ℕ, length, slice_index, vec_len, IsTrue, OnOk};
 ghost use Rattle.std.specs.List.{Contains};
 ghost use Rattle.least_fixed_points.specs.Marking.{IsMarked, Marks, Knows, HasReason, Visits};
@@ -5,7 +7,7 @@ ghost use Rattle.least_fixed_points.specs.Marking.{IsMarked, Marks, Knows, HasRe
 use crate::nodes::{Need, Node};
 use std::alloc::AllocError;
 
-/// Whether a node is marked.
+/// Returns whether a node is marked.
 fn is_marked(marks: &[bool], node: usize) -> bool
     ensures { IsTrue result ↔ IsMarked marks.now node }
 {
@@ -15,7 +17,7 @@ fn is_marked(marks: &[bool], node: usize) -> bool
     }
 }
 
-/// Marks a node, which joins the work where it is new.
+/// Marks a node, and adds it to the work if it had no mark.
 fn mark(node: usize, marks: &mut Vec<bool>, work: &mut Vec<usize>) -> Result<(), AllocError>
     requires { node < vec_len marks.old }
     ensures { OnOk result (Marks node marks.old.items work.old.items marks.new.items work.new.items) }
@@ -27,7 +29,8 @@ fn mark(node: usize, marks: &mut Vec<bool>, work: &mut Vec<usize>) -> Result<(),
     Ok(())
 }
 
-/// The first place, from this one on, of a part without a mark; the number of parts where there is none.
+/// Returns the first index, from `from` on, of a part without a mark, or the number of parts if all
+/// are marked.
 fn first_unmarked(parts: &[usize], from: usize, marks: &[bool]) -> usize
     ensures passed { (j : ℕ) → from ≤ j → j < result → j < length parts.now → IsMarked marks.now (slice_index parts.now j) }
     ensures stop { result < length parts.now → ¬ IsMarked marks.now (slice_index parts.now result) }
@@ -39,8 +42,8 @@ fn first_unmarked(parts: &[usize], from: usize, marks: &[bool]) -> usize
     at
 }
 
-/// Marks a node that is not marked yet, where what it needs is marked; of one that needs all of its
-/// parts the parts that were seen to be marked are not looked at again.
+/// Marks a node that has no mark yet, if what it needs is marked. Parts of a node that needs all of
+/// its parts are not looked at again once they were found marked.
 fn visit(
     user: usize,
     nodes: &[Node],
@@ -72,7 +75,7 @@ fn visit(
     }
 }
 
-/// Visits nodes.
+/// Visits each of these nodes.
 pub fn visit_all(
     users: &[usize],
     nodes: &[Node],

@@ -1,3 +1,5 @@
+//! The nodes of a least fixed point, and which of them are derived.
+
 ghost use Rattle.std.specs.Prelude.{◌≡◌, ◌↔◌, ℕ, Some, slice_get, IfOk};
 ghost use Rattle.std.specs.List.{Contains};
 
@@ -5,27 +7,29 @@ use crate::marking::visit_all;
 use crate::users::users;
 use std::alloc::{AllocError, Global};
 
-/// How many of its parts a node needs.
+/// The parts that a node needs.
 #[derive(Clone, Copy)]
 pub enum Need {
-    /// All of them; without parts it is derived.
+    /// All of its parts. A node without parts is derived.
     All,
-    /// One of them; without parts it is not derived.
+    /// One of its parts. A node without parts is not derived.
     One,
 }
 
-/// A node, with the numbers of the nodes that are its parts. A number that no node has is a part that
+/// A node, with the numbers of the nodes that are its parts. A number without a node is a part that
 /// is never derived.
 #[derive(Drop)]
 pub struct Node {
+    /// Whether it needs all of its parts or one.
     pub need: Need,
+    /// The numbers of its parts.
     pub parts: Vec<usize>,
 }
 
 ghost use Rattle.least_fixed_points.specs.Derived.{AreMarks};
 ghost use Rattle.least_fixed_points.specs.Starting.{NeedsAll};
 
-/// The nodes that need all of their parts.
+/// Returns the nodes that need all of their parts.
 fn starters(alloc: Global, nodes: &[Node]) -> Result<Vec<usize>, AllocError>
     ensures { IfOk result (λ starters. (k : ℕ) → Contains starters.items k ↔ NeedsAll nodes.now k) }
 {
@@ -39,9 +43,10 @@ fn starters(alloc: Global, nodes: &[Node]) -> Result<Vec<usize>, AllocError>
     Ok(starters)
 }
 
-/// For each node whether it is derived: whether it is in the least set of nodes that has each node that
-/// needs all of its parts and has all of them in the set, and each that needs one and has one there.
-/// Takes time in proportion to the nodes and their parts. The only error is want of memory.
+/// Returns for each node whether it is derived: whether it is in the least set of nodes that has
+/// each node that needs all of its parts and has all of them in the set, and each node that needs
+/// one of its parts and has one in the set. Takes time in proportion to the nodes and their parts.
+/// Fails only if memory runs out.
 pub fn least_fixed_point(alloc: Global, nodes: &[Node]) -> Result<Vec<bool>, AllocError>
     ensures { IfOk result (λ marks. AreMarks nodes.now marks.items) }
 {

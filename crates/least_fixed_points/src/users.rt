@@ -1,10 +1,12 @@
+//! For each node, the nodes that have it as a part.
+
 ghost use Rattle.std.specs.Prelude.{◌≡◌, ◌↔◌, ◌<◌, ℕ, IfOk, OnOk, length};
 ghost use Rattle.least_fixed_points.specs.Marking.{AddsUser, AddsUsers, AreUsers, HasUser};
 
 use crate::nodes::Node;
 use std::alloc::{AllocError, Global};
 
-/// Adds a user of a part, where the part has a row.
+/// Adds a user of a part, if the part has a row.
 fn add_user(part: usize, user: usize, users: &mut Vec<Vec<usize>>) -> Result<(), AllocError>
     ensures { OnOk result (AddsUser part user users.old.items users.new.items) }
 {
@@ -24,7 +26,7 @@ fn add_users(parts: &[usize], user: usize, users: &mut Vec<Vec<usize>>) -> Resul
     Ok(())
 }
 
-/// An empty row for each node.
+/// Returns `count` empty rows, one for each node.
 fn rows(alloc: Global, count: usize) -> Result<Vec<Vec<usize>>, AllocError>
     ensures size { IfOk result (λ rows. length rows.items ≡ count) }
     ensures empty { IfOk result (λ rows. (p u : ℕ) → ¬ HasUser rows.items p u) }
@@ -36,7 +38,7 @@ fn rows(alloc: Global, count: usize) -> Result<Vec<Vec<usize>>, AllocError>
     Ok(rows)
 }
 
-/// For each node the nodes that have it as a part.
+/// Returns for each node the nodes that have it as a part.
 pub fn users(alloc: Global, nodes: &[Node]) -> Result<Vec<Vec<usize>>, AllocError>
     ensures { IfOk result (λ users. AreUsers nodes.now users.items) }
 {

@@ -1,4 +1,4 @@
--- The laws of histories do not tell where boxes lie.
+-- The laws of histories do not depend on where boxes lie.
 use Rattle.std.proofs.Common.{◌≡◌, Bool, true, false, ◌&&◌, if◌then◌else◌, List, [], ◌∷◌, ◌++◌, map, Option, refl, sym, ap, ◌∙◌}
 use Rattle.std.proofs.lemmas.List.{map-append}
 use Rattle.ipdl_base.specs.declared.kinds.Side.{Side}
@@ -50,12 +50,12 @@ readable-plain schema reading line =
     ∙ ap (λ stack. (if is_effect line.what then is_of_event line.side reading.last else true) && is_readable_what schema stack (plain_what line.what)) (stack-plain line.side reading)
     ∙ ap (λ (b : Bool). (if is_effect line.what then is_of_event line.side reading.last else true) && b) (readable_what-plain schema (end_reading_of line.side reading).stack line.what)
 
-test-plain : (l : Law) (schema : Schema) (end : Side) (own other : EndReading) (w : What) (behind : List Line) → line_test l schema end (plain_end own) (plain_end other) (plain_what w) (map plain_line behind) ≡ line_test l schema end own other w behind
-test-plain law.Prefix schema end own other w behind = prefix-plain schema own other w
-test-plain law.Living schema end own other w behind = living-plain schema end own other w
-test-plain law.Waits schema end own other w behind = waits-plain schema own other w
-test-plain law.Settled schema end own other w behind = settled-plain schema end own other w behind
-test-plain law.Fallen schema end own other w behind = fallen-plain own w
+test-plain : (l : Law) (schema : Schema) (end : Side) (own other : EndReading) (w : What) (following : List Line) → line_test l schema end (plain_end own) (plain_end other) (plain_what w) (map plain_line following) ≡ line_test l schema end own other w following
+test-plain law.Prefix schema end own other w following = prefix-plain schema own other w
+test-plain law.Living schema end own other w following = living-plain schema end own other w
+test-plain law.Waits schema end own other w following = waits-plain schema own other w
+test-plain law.Settled schema end own other w following = settled-plain schema end own other w following
+test-plain law.Fallen schema end own other w following = fallen-plain own w
 
 moment-plain : (l : Law) (schema : Schema) (reading : Reading) → moment_test l schema (plain_reading reading) ≡ moment_test l schema reading
 unfolding moment_test
@@ -70,18 +70,18 @@ before-plain : (l : Law) (schema : Schema) (reading : Reading) (w : What) → mo
 before-plain l schema reading w =
     ap (λ (b : Bool). if b then true else moment_test l schema (plain_reading reading)) (effect-plain w) ∙ ap (λ (b : Bool). if is_effect w then true else b) (moment-plain l schema reading)
 
-passes-plain : (l : Law) (schema : Schema) (reading : Reading) (line : Line) (behind : List Line) → passes l schema (plain_reading reading) (plain_line line) (map plain_line behind) ≡ passes l schema reading line behind
+passes-plain : (l : Law) (schema : Schema) (reading : Reading) (line : Line) (following : List Line) → passes l schema (plain_reading reading) (plain_line line) (map plain_line following) ≡ passes l schema reading line following
 unfolding passes
-passes-plain l schema reading line behind =
-    ap (λ (b : Bool). b && (moment_before l schema (plain_reading reading) (plain_what line.what) && line_test l schema line.side (end_reading_of line.side (plain_reading reading)) (other_of line.side (plain_reading reading)) (plain_what line.what) (map plain_line behind)))
+passes-plain l schema reading line following =
+    ap (λ (b : Bool). b && (moment_before l schema (plain_reading reading) (plain_what line.what) && line_test l schema line.side (end_reading_of line.side (plain_reading reading)) (other_of line.side (plain_reading reading)) (plain_what line.what) (map plain_line following)))
     (readable-plain schema reading line)
-    ∙ (ap (λ (b : Bool). is_readable schema reading line && (b && line_test l schema line.side (end_reading_of line.side (plain_reading reading)) (other_of line.side (plain_reading reading)) (plain_what line.what) (map plain_line behind)))
+    ∙ (ap (λ (b : Bool). is_readable schema reading line && (b && line_test l schema line.side (end_reading_of line.side (plain_reading reading)) (other_of line.side (plain_reading reading)) (plain_what line.what) (map plain_line following)))
     (before-plain l schema reading line.what)
-    ∙ (ap (λ (x : EndReading). is_readable schema reading line && (moment_before l schema reading line.what && line_test l schema line.side x (other_of line.side (plain_reading reading)) (plain_what line.what) (map plain_line behind))) (own-reading line.side reading)
-    ∙ (ap (λ (x : EndReading). is_readable schema reading line && (moment_before l schema reading line.what && line_test l schema line.side (plain_end (end_reading_of line.side reading)) x (plain_what line.what) (map plain_line behind))) (other-reading line.side reading)
-    ∙ ap (λ (b : Bool). is_readable schema reading line && (moment_before l schema reading line.what && b)) (test-plain l schema line.side (end_reading_of line.side reading) (other_of line.side reading) line.what behind))))
+    ∙ (ap (λ (x : EndReading). is_readable schema reading line && (moment_before l schema reading line.what && line_test l schema line.side x (other_of line.side (plain_reading reading)) (plain_what line.what) (map plain_line following))) (own-reading line.side reading)
+    ∙ (ap (λ (x : EndReading). is_readable schema reading line && (moment_before l schema reading line.what && line_test l schema line.side (plain_end (end_reading_of line.side reading)) x (plain_what line.what) (map plain_line following))) (other-reading line.side reading)
+    ∙ ap (λ (b : Bool). is_readable schema reading line && (moment_before l schema reading line.what && b)) (test-plain l schema line.side (end_reading_of line.side reading) (other_of line.side reading) line.what following))))
 
-each-plain : (one other : List Line → Line → List Line → Bool) → ((before : List Line) (line : Line) (behind : List Line) → one (map plain_line before) (plain_line line) (map plain_line behind) ≡ other before line behind)
+each-plain : (one other : List Line → Line → List Line → Bool) → ((before : List Line) (line : Line) (following : List Line) → one (map plain_line before) (plain_line line) (map plain_line following) ≡ other before line following)
     → (before lines : List Line) → each_line one (map plain_line before) (map plain_line lines) ≡ each_line other before lines
 each-plain one other h before [] = refl
 each-plain one other h before (line ∷ lines) =
@@ -91,14 +91,14 @@ each-plain one other h before (line ∷ lines) =
 
 each_passes-plain : (l : Law) (schema : Schema) (lines : List Line) → each_passes l schema (map plain_line lines) ≡ each_passes l schema lines
 each_passes-plain l schema lines =
-    each-plain (λ before line behind. passes l schema (read schema before) line behind) (λ before line behind. passes l schema (read schema before) line behind)
-    (λ before line behind. ap (λ (r : Reading). passes l schema r (plain_line line) (map plain_line behind)) (read-plain schema before) ∙ passes-plain l schema (read schema before) line behind) [] lines
+    each-plain (λ before line following. passes l schema (read schema before) line following) (λ before line following. passes l schema (read schema before) line following)
+    (λ before line following. ap (λ (r : Reading). passes l schema r (plain_line line) (map plain_line following)) (read-plain schema before) ∙ passes-plain l schema (read schema before) line following) [] lines
 
 pub laws_see_no_box : LawsSeeNoBox
 laws_see_no_box = record {
   readable = λ schema lines.
-      each-plain (λ before line behind. is_readable schema (read schema before) line) (λ before line behind. is_readable schema (read schema before) line)
-      (λ before line behind. ap (λ (r : Reading). is_readable schema r (plain_line line)) (read-plain schema before) ∙ readable-plain schema (read schema before) line) [] lines;
+      each-plain (λ before line following. is_readable schema (read schema before) line) (λ before line following. is_readable schema (read schema before) line)
+      (λ before line following. ap (λ (r : Reading). is_readable schema r (plain_line line)) (read-plain schema before) ∙ readable-plain schema (read schema before) line) [] lines;
   holds = λ l schema lines.
       ap (λ (b : Bool). b && moment_test l schema (read schema (map plain_line lines))) (each_passes-plain l schema lines)
       ∙ ap (λ (b : Bool). each_passes l schema lines && b) (ap (moment_test l schema) (read-plain schema lines) ∙ moment-plain l schema (read schema lines));

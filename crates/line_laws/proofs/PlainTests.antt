@@ -1,4 +1,4 @@
--- The tests of laws do not tell where boxes lie.
+-- The tests of laws do not depend on where boxes lie.
 use Rattle.std.proofs.Common.{◌≡◌, ℕ, zero, suc, ℤ, pos, Bool, true, false, not, ◌&&◌, ◌||◌, if◌then◌else◌, List, [], ◌∷◌, ◌++◌, map, length, Option, Some, None, is_some, option_map, option_and_then, unwrap_or, slice_get, nat_lt, refl, sym, ap, ◌∙◌}
 use Rattle.std.specs.List.{list_any, list_all}
 use Rattle.std.specs.Option.{option_map_or}
@@ -30,22 +30,23 @@ use Rattle.history_reading.specs.declared.parts.PacketKind.TheVariants as seen
 use Rattle.history_reading.specs.EndReading.{EndReading, was_built, lives, own_request, is_promise, is_sync_request, awaits, has_unanswered, is_settled_packet}
 use Rattle.history_reading.specs.Fallen.{is_next as is_next_to_fall, lets_fall, may_fall, fallen_line, fallen_moment}
 use Rattle.history_reading.specs.Holds.{is_readable_what, is_of_event, is_readable, each_line, is_readable_list, line_test, moment_test, moment_before, passes, each_passes, holds_of}
-use Rattle.history_reading.specs.Living.{other_side, made_id, request_makes, event_makes, is_made, is_missing_in, is_first_missing, is_dropped_for, is_taken_alive, is_built_right, living_line}
+use Rattle.ipdl_base.specs.Sides.{other as other_side}
+use Rattle.history_reading.specs.Living.{made_id, request_makes, event_makes, is_made, is_missing_in, is_first_missing, is_dropped_for, is_taken_alive, is_built_right, living_line}
 use Rattle.history_reading.specs.Nulled.{missing, is_nulled}
 use Rattle.history_reading.specs.Numbers.{has, same_packet}
 use Rattle.history_reading.specs.Prefix.{is_next_of, is_next, is_there, is_for, was_sent, was_sent_with, is_reply_there, prefix_line}
 use Rattle.history_reading.specs.Reading.{Reading, read, end_reading_of, other_of}
 use Rattle.history_reading.specs.SentPacket as told
 use Rattle.history_reading.specs.SentPacket.{SentPacket, Request, ReplyContent, packet_kind, is_said, says}
-use Rattle.history_reading.specs.Settled.{is_unsettled, is_resolved_with, is_resolved_missing, is_rejected, is_close_event, is_settle, is_fall_of, is_fall_at, falls_next, promise_falls_next, says_fallen, resolves_missing, says_destroyed, is_destroyed, is_cause, is_resolved, settled_line, all_settled, settled_moment}
+use Rattle.history_reading.specs.Settled.{is_unsettled, is_resolved_with, is_resolved_missing, is_rejected, is_close_event, is_settle, is_fall_of, is_fall_at, falls_next, promise_falls_next, reports_fallen, resolves_missing, reports_destroyed, is_destroyed, is_cause, is_resolved, settled_line, all_settled, settled_moment}
 use Rattle.history_reading.specs.Still.{head_of, call_head, request_head, frame_head, inner_of_head, frame_inner, inner_transaction, awaited_head, awaited_level, DeferralState, deferral_of, defers_request_head, defers_head, defers_packet, is_open, can_deliver, can_take_now, takes_items, some_is_free, can_take, is_still_at, is_still}
-use Rattle.history_reading.specs.Waits.{own_returns, is_fault, is_ok_with, is_ok_missing, is_own_fault, is_answered, is_failed, is_end_event, is_reply_in_order, waits_line, blocks, block_each_other, some_waits_behind_end, some_waits, waits_while_still, waits_moment}
+use Rattle.history_reading.specs.Waits.{own_returns, is_fault, is_ok_with, is_ok_missing, is_own_fault, is_answered, is_failed, is_end_event, is_reply_in_order, waits_line, blocks, block_each_other, some_waits_after_end, some_waits, waits_while_still, waits_moment}
 use Rattle.end_parts.specs.PlainLines.{plain_what, plain_line}
 use Rattle.line_laws.proofs.PlainReadings.{plain_request, plain_content, plain_packet, plain_end, plain_reading, own-plain, sync-plain, read-plain}
 use Rattle.line_laws.proofs.PlainValues.{missing-plain, live-plain, is_nulled-plain}
 use Rattle.line_laws.proofs.Texts.{effect-plain}
 
--- What is asked of requests and of what was said
+-- What is required of requests and of what was sent
 
 found-by : {A : Type 0} (f g : Request → A) (d : A) → ((r : Request) → f (plain_request r) ≡ g r) → (found : Option Request) → option_map_or f (option_map plain_request found) d ≡ option_map_or g found d
 found-by f g d h None = refl
@@ -238,8 +239,8 @@ block-plain schema parent child =
 
 pub waits_moment-plain : (schema : Schema) (reading : Reading) → waits_moment schema (plain_reading reading) ≡ waits_moment schema reading
 waits_moment-plain schema reading =
-    ap (λ b. if b then false else (if some_waits_behind_end reading then false else not (some_waits reading && is_still schema (plain_reading reading)))) (block-plain schema reading.parent reading.child)
-    ∙ ap (λ b. if block_each_other schema reading.parent reading.child then false else (if some_waits_behind_end reading then false else not (some_waits reading && b))) (both_still-plain schema reading)
+    ap (λ b. if b then false else (if some_waits_after_end reading then false else not (some_waits reading && is_still schema (plain_reading reading)))) (block-plain schema reading.parent reading.child)
+    ∙ ap (λ b. if block_each_other schema reading.parent reading.child then false else (if some_waits_after_end reading then false else not (some_waits reading && b))) (both_still-plain schema reading)
 
 -- Settled
 
@@ -289,47 +290,47 @@ fall-plain id (what.AnswerOk n vs) = refl
 fall-plain id (what.Resolved n vs) = refl
 fall-plain id _ = refl
 
-falls-plain : (end : Side) (id : ℤ) (behind : List Line) → falls_next end id (map plain_line behind) ≡ falls_next end id behind
+falls-plain : (end : Side) (id : ℤ) (following : List Line) → falls_next end id (map plain_line following) ≡ falls_next end id following
 falls-plain end id [] = refl
-falls-plain end id (line ∷ behind) =
-    ap (λ b. if b then falls_next end id (map plain_line behind) else is_fall_at end id (plain_line line)) (settle-plain line.what)
-    ∙ (ap (λ b. if is_settle line.what then b else is_fall_at end id (plain_line line)) (falls-plain end id behind)
-    ∙ ap (λ b. if is_settle line.what then falls_next end id behind else same_side line.side end && b) (fall-plain id line.what))
+falls-plain end id (line ∷ following) =
+    ap (λ b. if b then falls_next end id (map plain_line following) else is_fall_at end id (plain_line line)) (settle-plain line.what)
+    ∙ (ap (λ b. if is_settle line.what then b else is_fall_at end id (plain_line line)) (falls-plain end id following)
+    ∙ ap (λ b. if is_settle line.what then falls_next end id following else same_side line.side end && b) (fall-plain id line.what))
 
-promise_falls-plain : (end : Side) (own : EndReading) (n : ℤ) (behind : List Line) → promise_falls_next end (plain_end own) n (map plain_line behind) ≡ promise_falls_next end own n behind
+promise_falls-plain : (end : Side) (own : EndReading) (n : ℤ) (following : List Line) → promise_falls_next end (plain_end own) n (map plain_line following) ≡ promise_falls_next end own n following
 unfolding promise_falls_next
-promise_falls-plain end own n behind =
-    asked (λ (r : Request). falls_next end r.route (map plain_line behind)) (λ (r : Request). falls_next end r.route behind) false (λ r. falls-plain end r.route behind) own n
+promise_falls-plain end own n following =
+    asked (λ (r : Request). falls_next end r.route (map plain_line following)) (λ (r : Request). falls_next end r.route following) false (λ r. falls-plain end r.route following) own n
 
-destroyed-plain : (schema : Schema) (own other : EndReading) (n : ℤ) → says_destroyed schema (plain_end own) (plain_end other) n ≡ says_destroyed schema own other n
-unfolding says_fallen resolves_missing
+destroyed-plain : (schema : Schema) (own other : EndReading) (n : ℤ) → reports_destroyed schema (plain_end own) (plain_end other) n ≡ reports_destroyed schema own other n
+unfolding reports_fallen resolves_missing
 destroyed-plain schema own other n =
     ap (λ b. if b then true else resolves_missing schema (plain_end own) (plain_end other) n) (says-plain (is_fault reason.ActorDestroyed) (is_fault reason.ActorDestroyed) (fault-plain reason.ActorDestroyed) other.sent n)
-    ∙ ap (λ b. if says_fallen other n then true else b)
+    ∙ ap (λ b. if reports_fallen other n then true else b)
     (says-plain (is_resolved_missing schema (plain_end own) (own_returns schema (plain_end own) n)) (is_resolved_missing schema own (own_returns schema (plain_end own) n)) (resolved_missing-plain schema own (own_returns schema (plain_end own) n)) other.sent n
     ∙ ap (λ types. says (is_resolved_missing schema own types) other.sent n) (returns-plain schema own n))
 
-cause-plain : (schema : Schema) (end : Side) (own other : EndReading) (n : ℤ) (behind : List Line) (r : Reason) → is_cause schema end (plain_end own) (plain_end other) n (map plain_line behind) r ≡ is_cause schema end own other n behind r
+cause-plain : (schema : Schema) (end : Side) (own other : EndReading) (n : ℤ) (following : List Line) (r : Reason) → is_cause schema end (plain_end own) (plain_end other) n (map plain_line following) r ≡ is_cause schema end own other n following r
 unfolding is_destroyed
-cause-plain schema end own other n behind reason.HandlerRejected = says-plain is_rejected is_rejected rejected-plain other.sent n
-cause-plain schema end own other n behind reason.ResolverDestroyed = says-plain (is_fault reason.ResolverDestroyed) (is_fault reason.ResolverDestroyed) (fault-plain reason.ResolverDestroyed) other.sent n
-cause-plain schema end own other n behind reason.ChannelClosed = refl
-cause-plain schema end own other n behind reason.ActorDestroyed =
-    ap (λ b. if b then true else promise_falls_next end (plain_end own) n (map plain_line behind)) (destroyed-plain schema own other n)
-    ∙ ap (λ b. if says_destroyed schema own other n then true else b) (promise_falls-plain end own n behind)
+cause-plain schema end own other n following reason.HandlerRejected = says-plain is_rejected is_rejected rejected-plain other.sent n
+cause-plain schema end own other n following reason.ResolverDestroyed = says-plain (is_fault reason.ResolverDestroyed) (is_fault reason.ResolverDestroyed) (fault-plain reason.ResolverDestroyed) other.sent n
+cause-plain schema end own other n following reason.ChannelClosed = refl
+cause-plain schema end own other n following reason.ActorDestroyed =
+    ap (λ b. if b then true else promise_falls_next end (plain_end own) n (map plain_line following)) (destroyed-plain schema own other n)
+    ∙ ap (λ b. if reports_destroyed schema own other n then true else b) (promise_falls-plain end own n following)
 
-pub settled-plain : (schema : Schema) (end : Side) (own other : EndReading) (w : What) (behind : List Line) → settled_line schema end (plain_end own) (plain_end other) (plain_what w) (map plain_line behind) ≡ settled_line schema end own other w behind
-settled-plain schema end own other (what.Resolved n vs) behind =
+pub settled-plain : (schema : Schema) (end : Side) (own other : EndReading) (w : What) (following : List Line) → settled_line schema end (plain_end own) (plain_end other) (plain_what w) (map plain_line following) ≡ settled_line schema end own other w following
+settled-plain schema end own other (what.Resolved n vs) following =
     ap (λ b. b && is_resolved schema (plain_end own) (plain_end other) n (plain_values vs)) (unsettled-plain own n) ∙ ap (λ b. is_unsettled own n && b) (resolved-plain schema own other n vs)
-settled-plain schema end own other (what.Rejected n r) behind =
-    ap (λ b. b && is_cause schema end (plain_end own) (plain_end other) n (map plain_line behind) r) (unsettled-plain own n) ∙ ap (λ b. is_unsettled own n && b) (cause-plain schema end own other n behind r)
-settled-plain schema end own other (what.Send n route number vs) behind = refl
-settled-plain schema end own other (what.Call n transaction route number vs) behind = refl
-settled-plain schema end own other (what.Resolve n vs) behind = refl
-settled-plain schema end own other (what.Take n route number vs) behind = refl
-settled-plain schema end own other (what.ResumeOk n vs) behind = refl
-settled-plain schema end own other (what.AnswerOk n vs) behind = refl
-settled-plain schema end own other _ behind = refl
+settled-plain schema end own other (what.Rejected n r) following =
+    ap (λ b. b && is_cause schema end (plain_end own) (plain_end other) n (map plain_line following) r) (unsettled-plain own n) ∙ ap (λ b. is_unsettled own n && b) (cause-plain schema end own other n following r)
+settled-plain schema end own other (what.Send n route number vs) following = refl
+settled-plain schema end own other (what.Call n transaction route number vs) following = refl
+settled-plain schema end own other (what.Resolve n vs) following = refl
+settled-plain schema end own other (what.Take n route number vs) following = refl
+settled-plain schema end own other (what.ResumeOk n vs) following = refl
+settled-plain schema end own other (what.AnswerOk n vs) following = refl
+settled-plain schema end own other _ following = refl
 
 packet-plain : (settled : List ℤ) (packet : SentPacket) → is_settled_packet settled (plain_packet packet) ≡ is_settled_packet settled packet
 packet-plain settled (told.request r) = refl

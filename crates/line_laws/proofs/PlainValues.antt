@@ -1,4 +1,4 @@
--- What laws of histories ask of values does not tell where boxes lie.
+-- What laws of histories require of values does not depend on where boxes lie.
 use Rattle.std.proofs.Common.{◌≡◌, ℕ, ℤ, Bool, true, false, not, ◌&&◌, ◌==◌, List, [], ◌∷◌, ◌++◌, find, is_none, Option, Some, None, option_map, refl, sym, ap, ◌∙◌}
 use Rattle.ipdl_base.specs.declared.schema.ParamRow.{ParamRow}
 use Rattle.ipdl_base.specs.declared.schema.Schema.{Schema}

@@ -11,7 +11,7 @@ use Rattle.end_parts.specs.PlainLines.{plain_line}
 abbrev pub TextsSeeNoBox : Type 0
 TextsSeeNoBox = (schema : Schema) (lines : List Line) → transcript_text schema (map plain_line lines) ≡ transcript_text schema lines
 
--- Neither whether lines can be read nor whether a law holds of them tells where boxes lie.
+-- Neither whether lines can be read nor whether a law holds of them depends on where boxes lie.
 pub record LawsSeeNoBox : Type 0 where
   pub readable : (schema : Schema) (lines : List Line) → is_readable_list schema (map plain_line lines) ≡ is_readable_list schema lines
   pub holds : (law : Law) (schema : Schema) (lines : List Line) → holds_of law schema (map plain_line lines) ≡ holds_of law schema lines

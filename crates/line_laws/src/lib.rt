@@ -1,5 +1,5 @@
-//! What follows of lines wherever the boxes of their values lie: their text is the same
-//! (docs/transcripts.md), and so are the laws that hold of them (docs/laws.md). No function that runs.
+//! Lines are the same wherever the boxes of their values lie: their text is (docs/transcripts.md),
+//! and the laws that hold of them are (docs/laws.md). No function that runs.
 #![tactic(auto)]
 
 mod laws;

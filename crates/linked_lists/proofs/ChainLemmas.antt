@@ -1,7 +1,7 @@
 -- What a chain and its ends are after a node has joined it, and after one has left.
 use Rattle.std.proofs.Common.{◌≡◌, ◌≢◌, inl, inr, ℕ, ◌==◌, Bool, true, false, cond, List, [], ◌∷◌, ◌++◌, Option, Some, None, refl, sym, ap, ◌∙◌, subst}
 use Rattle.std.specs.Option.{option_map}
-use Rattle.linked_lists.specs.declared.link.Link.{Link}
+use Rattle.linked_lists.specs.declared.link.NodeLink.{NodeLink}
 use Rattle.linked_lists.specs.Neighbours.{IsIn, AreDistinct, is_the, last, after, before, omit}
 use Rattle.linked_lists.specs.Links.{key_eq, link_in, ends_of, ends_with, ends_without}
 use Rattle.linked_lists.specs.Chains.{IsChain, with_previous, with_next, attached, detached}
@@ -10,8 +10,8 @@ use Rattle.linked_lists.proofs.NeighbourLemmas.{same, other, is_the-other, in-ap
 
 -- ---- one node
 
--- what no writing of a link changes stays
-module _ {N B : Type 0} (link_of : N → Link) (with_link : Link → N → N) (part : N → B) (kept : (l : Link) (n : N) → part (with_link l n) ≡ part n) where
+-- a part of a node that no change of its link affects stays the same
+module _ {N B : Type 0} (link_of : N → NodeLink) (with_link : NodeLink → N → N) (part : N → B) (kept : (l : NodeLink) (n : N) → part (with_link l n) ≡ part n) where
   previous-keeps : (at key : Option ℕ) (k : ℕ) (n : N) → part (with_previous link_of with_link at key k n) ≡ part n
   previous-keeps at key k n = by (is_the key_eq at k)
     where
@@ -30,11 +30,11 @@ module _ {N B : Type 0} (link_of : N → Link) (with_link : Link → N → N) (p
   attached-keeps last key k n =
       next-keeps last (Some key) k (with_previous link_of with_link (Some key) last k n) ∙ previous-keeps (Some key) last k n
 
-  pub detached-keeps : (gone : Link) (k : ℕ) (n : N) → part (detached link_of with_link gone k n) ≡ part n
+  pub detached-keeps : (gone : NodeLink) (k : ℕ) (n : N) → part (detached link_of with_link gone k n) ≡ part n
   detached-keeps gone k n =
       next-keeps gone.previous gone.next k (with_previous link_of with_link gone.next gone.previous k n) ∙ previous-keeps gone.next gone.previous k n
 
-module _ {N : Type 0} (link_of : N → Link) (with_link : Link → N → N) (set : (l : Link) (n : N) → link_of (with_link l n) ≡ l) where
+module _ {N : Type 0} (link_of : N → NodeLink) (with_link : NodeLink → N → N) (set : (l : NodeLink) (n : N) → link_of (with_link l n) ≡ l) where
   previous-set : (at key : Option ℕ) (k : ℕ) (n : N) → link_of (with_previous link_of with_link at key k n) ≡ record { previous = cond (is_the key_eq at k) key (link_of n).previous; next = (link_of n).next }
   previous-set at key k n = by (is_the key_eq at k)
     where
@@ -52,12 +52,12 @@ module _ {N : Type 0} (link_of : N → Link) (with_link : Link → N → N) (set
   both-set : (at key at' key' : Option ℕ) (k : ℕ) (n : N) → link_of (with_next link_of with_link at' key' k (with_previous link_of with_link at key k n)) ≡ record { previous = cond (is_the key_eq at k) key (link_of n).previous; next = cond (is_the key_eq at' k) key' (link_of n).next }
   both-set at key at' key' k n =
       next-set at' key' k (with_previous link_of with_link at key k n)
-      ∙ ap (λ (l : Link). record { previous = l.previous; next = cond (is_the key_eq at' k) key' l.next }) (previous-set at key k n)
+      ∙ ap (λ (l : NodeLink). record { previous = l.previous; next = cond (is_the key_eq at' k) key' l.next }) (previous-set at key k n)
 
   attached-link : (last : Option ℕ) (key k : ℕ) (n : N) → link_of (attached link_of with_link last key k n) ≡ record { previous = cond (key == k) last (link_of n).previous; next = cond (is_the key_eq last k) (Some key) (link_of n).next }
   attached-link last key k n = both-set (Some key) last last (Some key) k n
 
-  detached-link : (gone : Link) (k : ℕ) (n : N) → link_of (detached link_of with_link gone k n) ≡ record { previous = cond (is_the key_eq gone.next k) gone.previous (link_of n).previous; next = cond (is_the key_eq gone.previous k) gone.next (link_of n).next }
+  detached-link : (gone : NodeLink) (k : ℕ) (n : N) → link_of (detached link_of with_link gone k n) ≡ record { previous = cond (is_the key_eq gone.next k) gone.previous (link_of n).previous; next = cond (is_the key_eq gone.previous k) gone.next (link_of n).next }
   detached-link gone k n = both-set gone.next gone.previous gone.previous gone.next k n
 
   -- ---- one more
@@ -93,7 +93,7 @@ module _ {N : Type 0} (link_of : N → Link) (with_link : Link → N → N) (set
               }),
             )
 
-    -- another list of that chain stays
+    -- another list of the chain stays the same
     pub chain-beside-attached : (others : List ℕ) → ((k : ℕ) → IsIn k others → (IsIn k keys → ⊥) × (k ≢ key)) → IsChain link_of node others → IsChain link_of node' others
     chain-beside-attached others apart chain k h =
         let w = chain k h in
@@ -124,7 +124,7 @@ module _ {N : Type 0} (link_of : N → Link) (with_link : Link → N → N) (set
           }),
         )
 
-    -- another list of that chain stays
+    -- another list of the chain stays the same
     pub chain-beside-detached : (others : List ℕ) → ((k : ℕ) → IsIn k others → IsIn k keys → ⊥) → IsChain link_of node others → IsChain link_of node' others
     chain-beside-detached others apart chain k h =
         let w = chain k h in
@@ -140,12 +140,12 @@ module _ {N : Type 0} (link_of : N → Link) (with_link : Link → N → N) (set
 
 -- ---- chains where the links of another chain changed, or nothing did
 
-pub chain-along : {N : Type 0} (link_of : N → Link) (node node' : ℕ → Option N) (keys : List ℕ) (f : ℕ → N → N) → ((k : ℕ) (n : N) → link_of (f k n) ≡ link_of n) → ((k : ℕ) → IsIn k keys → node' k ≡ option_map (f k) (node k)) → IsChain link_of node keys → IsChain link_of node' keys
+pub chain-along : {N : Type 0} (link_of : N → NodeLink) (node node' : ℕ → Option N) (keys : List ℕ) (f : ℕ → N → N) → ((k : ℕ) (n : N) → link_of (f k n) ≡ link_of n) → ((k : ℕ) → IsIn k keys → node' k ≡ option_map (f k) (node k)) → IsChain link_of node keys → IsChain link_of node' keys
 chain-along link_of node node' keys f same at chain k h =
     let w = chain k h in
     (f k w.0, at k h ∙ ap (option_map (f k)) w.1, same k w.0 ∙ w.2)
 
-pub chain-kept : {N : Type 0} (link_of : N → Link) (node node' : ℕ → Option N) (keys : List ℕ) → ((k : ℕ) → IsIn k keys → node' k ≡ node k) → IsChain link_of node keys → IsChain link_of node' keys
+pub chain-kept : {N : Type 0} (link_of : N → NodeLink) (node node' : ℕ → Option N) (keys : List ℕ) → ((k : ℕ) → IsIn k keys → node' k ≡ node k) → IsChain link_of node keys → IsChain link_of node' keys
 chain-kept link_of node node' keys at chain k h =
     let w = chain k h in
     (w.0, at k h ∙ w.1, w.2)

@@ -71,7 +71,7 @@ module _ {X : Type 0} (t : X → Bool) (item : ℕ → Option X) where
         ]
       ]
 
--- where the items of the keys are the same
+-- if the items of the keys are the same
 pub chosen-same : {X : Type 0} (t : X → Bool) (item item' : ℕ → Option X) (ks : List ℕ) → ((k : ℕ) → IsIn k ks → item' k ≡ item k) → chosen_keys t item' ks ≡ chosen_keys t item ks
 chosen-same t item item' [] h = refl
 chosen-same t item item' (k ∷ ks) h =

@@ -1,4 +1,4 @@
--- Keys are told apart by their test.
+-- The test of keys decides equality.
 use Rattle.std.proofs.lemmas.Bool.Decides.{Decides-eqb}
 use Rattle.linked_lists.specs.Neighbours.{IsTest}
 use Rattle.linked_lists.specs.Links.{key_eq}

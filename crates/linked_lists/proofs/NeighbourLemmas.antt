@@ -1,4 +1,4 @@
--- Who stands where on a list in which none stands twice, once one more stands at its end and once one has left.
+-- Positions on a list of distinct elements, after one more is appended, and after one has left.
 use Rattle.std.proofs.Common.{◌≡◌, ◌≢◌, ◌⊎◌, inl, inr, Bool, true, false, not, cond, ◌+◌, List, [], ◌∷◌, ◌++◌, length, Option, Some, None, is_some, refl, sym, ap, ◌∙◌, subst, true≢false, arith}
 use Rattle.std.proofs.lemmas.Bool.{cases_Bool}
 use Rattle.linked_lists.specs.Neighbours.{IsTest, IsIn, AreDistinct, is_the, head, last_with, last, after, before_with, before, omit}
@@ -107,7 +107,7 @@ module _ {A : Type 0} {eq : A → A → Bool} (d : IsTest eq) where
   before-none p i [] n = refl
   before-none p i (x ∷ xs) n = before-other p i x xs (λ e. n (inl e)) ∙ before-none (Some x) i xs (λ h. n (inr h))
 
-  -- the one ahead is what stands before the list, or one of the list whatever stands before it
+  -- the element before is the one before the list, or one of the list, whatever is before the list
   pub before-cases : (i : A) (xs : List A) → IsIn i xs → ((p : Option A) → before_with eq p i xs ≡ p) ⊎ ((j : A) × IsIn j xs × ((p : Option A) → before_with eq p i xs ≡ Some j))
   before-cases i [] h = absurd h
   before-cases i (x ∷ xs) h =
@@ -190,7 +190,7 @@ module _ {A : Type 0} {eq : A → A → Bool} (d : IsTest eq) where
             ∙ ap (λ v. cond (is_some (after eq x (y ∷ ys))) (last_with (Some y) ys) v) (sym (before-other p x y ys n))
       ]
 
-  -- the one ahead of x, seen from i, which is not what stands before the list
+  -- the element before x, compared with i, which is not the one before the list
   is_the-before_prior : (i x y : A) (ys : List A) → y ≢ i → IsIn x ys → is_the eq (before_with eq (Some y) x ys) i ≡ is_the eq (before eq x ys) i
   is_the-before_prior i x y ys n h =
       elim (before-cases x ys h) [
@@ -255,7 +255,7 @@ module _ {A : Type 0} {eq : A → A → Bool} (d : IsTest eq) where
             ])
       ]
 
-  -- one of what is left was there, and is not the one that left
+  -- an element that is left was there, and is not the one that left
   pub omit-in : (x j : A) (xs : List A) → IsIn j (omit eq x xs) → IsIn j xs × (j ≢ x)
   omit-in x j [] h = absurd h
   omit-in x j (y ∷ ys) h =

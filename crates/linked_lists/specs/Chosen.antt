@@ -13,7 +13,7 @@ module _ {X : Type 0} where
   abbrev pub chosen_keys : (X → Bool) → (ℕ → Option X) → List ℕ → List ℕ
   chosen_keys test item keys = filter (λ k. passes test (item k)) keys
 
-  -- the items, ahead of which one may stand
+  -- the items after an item, if there is one
   abbrev pub cons_some : Option X → List X → List X
   cons_some None xs = xs
   cons_some (Some x) xs = x ∷ xs
@@ -23,12 +23,12 @@ module _ {X : Type 0} where
   items_of item [] = []
   items_of item (k ∷ ks) = cons_some (item k) (items_of item ks)
 
-  -- the item of a key that may be there
+  -- the item of a key, if there is a key
   abbrev pub item_of : (ℕ → Option X) → Option ℕ → Option X
   item_of item None = None
   item_of item (Some k) = item k
 
--- the keys without one that may be there
+-- the keys without this one, if there is one
 abbrev pub omit_some : Option ℕ → List ℕ → List ℕ
 omit_some None keys = keys
 omit_some (Some k) keys = omit key_eq k keys

@@ -1,7 +1,7 @@
--- Who stands where on a list, by a test of who is who.
+-- The positions of elements on a list, by a test of equality.
 use Rattle.std.specs.Prelude.{◌≡◌, Bool, false, not, Decides, List, [], ◌∷◌, filter, Option, Some, None, ◌⊎◌, if◌then◌else◌}
 
--- the test tells who is who
+-- the test decides equality
 abbrev pub IsTest : {A : Type 0} → (A → A → Bool) → Type 0
 IsTest {A} eq = (x y : A) → Decides (eq x y) (x ≡ y)
 
@@ -11,7 +11,7 @@ module _ {A : Type 0} where
   IsIn x [] = ⊥
   IsIn x (y ∷ ys) = (y ≡ x) ⊎ IsIn x ys
 
-  -- none is on the list twice
+  -- no element is on the list twice
   abbrev pub AreDistinct : List A → Type 0
   AreDistinct [] = Unit {0}
   AreDistinct (x ∷ xs) = (IsIn x xs → ⊥) × AreDistinct xs
@@ -21,7 +21,7 @@ module _ {A : Type 0} where
   head [] = None
   head (x ∷ xs) = Some x
 
-  -- the last, or else what stands before the list
+  -- the last, or else what is before the list
   abbrev pub last_with : Option A → List A → Option A
   last_with earlier [] = earlier
   last_with earlier (x ∷ xs) = last_with (Some x) xs
@@ -31,22 +31,22 @@ module _ {A : Type 0} where
   last xs = last_with None xs
 
 module _ {A : Type 0} (eq : A → A → Bool) where
-  -- whether there is one, and it is that one
+  -- whether there is an element, and it is x
   abbrev pub is_the : Option A → A → Bool
   is_the None x = false
   is_the (Some y) x = eq y x
 
-  -- the one behind x, if there is one
+  -- the element after x, if there is one
   abbrev pub after : A → List A → Option A
   after x [] = None
   after x (y ∷ ys) = if eq y x then head ys else after x ys
 
-  -- the one ahead of x, where that one stands before the list
+  -- the element before x, where the given one is before the list
   abbrev pub before_with : Option A → A → List A → Option A
   before_with earlier x [] = None
   before_with earlier x (y ∷ ys) = if eq y x then earlier else before_with (Some y) x ys
 
-  -- the one ahead of x, if there is one
+  -- the element before x, if there is one
   abbrev pub before : A → List A → Option A
   before x ys = before_with None x ys
 

@@ -1,40 +1,40 @@
-//! Nodes that stand on lists, and the two writes that keep their links.
+//! Nodes on linked lists, and the two operations that keep their links.
 ghost use Rattle.std.specs.Prelude.{◌≡◌, ℕ, Option};
 ghost use Rattle.std.specs.Option.{option_map};
 ghost use Rattle.slab.specs.Slab.{get, slab_len};
-ghost use Rattle.linked_lists.specs.declared.link.Link.{Link};
+ghost use Rattle.linked_lists.specs.declared.link.NodeLink.{NodeLink};
 ghost use Rattle.linked_lists.specs.Chains.{link_of_some, with_previous, with_next, attached, detached};
 
-use super::link::Link;
+use super::link::NodeLink;
 use slab::Slab;
 
-/// A node of a slab. It has a link for each of the chains that it may stand on.
+/// A node of a slab. It has a link for each of the chains that it may be on.
 pub trait LinkedNode {
-    /// Which chain.
+    /// The chains that a node may be on.
     type Chain: Copy;
 
-    ghost link_of: { Self.Chain → Self → Link };
+    ghost link_of: { Self.Chain → Self → NodeLink };
 
-    ghost with_link: { Self.Chain → Link → Self → Self };
+    ghost with_link: { Self.Chain → NodeLink → Self → Self };
 
-    /// Its link on a chain.
-    fn link(&self, chain: Self::Chain) -> Link
+    /// Returns its link on a chain.
+    fn link(&self, chain: Self::Chain) -> NodeLink
         ensures { result ≡ link_of chain self.now };
 
-    /// Gives it another link on a chain.
-    fn set_link(&mut self, chain: Self::Chain, link: Link)
+    /// Replaces its link on a chain.
+    fn set_link(&mut self, chain: Self::Chain, link: NodeLink)
         ensures { self.new ≡ with_link chain link self.old };
 
-    ghost reads_back: { (chain : Self.Chain) (link : Link) (node : Self) → link_of chain (with_link chain link node) ≡ link };
+    ghost reads_back: { (chain : Self.Chain) (link : NodeLink) (node : Self) → link_of chain (with_link chain link node) ≡ link };
 }
 
-/// The link of the node at a key on a chain; none where there is no node.
-pub fn link_at<N: LinkedNode>(nodes: &Slab<N>, chain: N::Chain, key: usize) -> Link
+/// Returns the link on a chain of the node at a key, or no link if there is no node.
+pub fn link_at<N: LinkedNode>(nodes: &Slab<N>, chain: N::Chain, key: usize) -> NodeLink
     ensures { result ≡ link_of_some (N.link_of chain) (get nodes.now key) }
 {
     match nodes.get(key) {
         Some(node) => node.link(chain),
-        None => Link::none(),
+        None => NodeLink::none(),
     }
 }
 
@@ -55,7 +55,7 @@ fn set_previous<N: LinkedNode>(
         let link = node.link(chain);
         node.set_link(
             chain,
-            Link {
+            NodeLink {
                 previous: key,
                 next: link.next,
             },
@@ -80,7 +80,7 @@ fn set_next<N: LinkedNode>(
         let link = node.link(chain);
         node.set_link(
             chain,
-            Link {
+            NodeLink {
                 previous: link.previous,
                 next: key,
             },
@@ -88,7 +88,7 @@ fn set_next<N: LinkedNode>(
     }
 }
 
-/// Puts the node at `key` on a chain, behind the last one there.
+/// Puts the node at `key` on a chain, after the node at `last`, if there is one.
 pub fn attach<N: LinkedNode>(nodes: &mut Slab<N>, chain: N::Chain, last: Option<usize>, key: usize)
     ensures nodes { (k : ℕ) → get nodes.new k ≡ option_map (attached (N.link_of chain) (N.with_link chain) last key k) (get nodes.old k) }
     ensures capacity { nodes.new.capacity ≡ nodes.old.capacity }
@@ -98,8 +98,8 @@ pub fn attach<N: LinkedNode>(nodes: &mut Slab<N>, chain: N::Chain, last: Option<
     set_next(nodes, chain, last, Some(key));
 }
 
-/// Joins the nodes ahead of one and behind it, which leaves a chain and whose link was that.
-pub fn detach<N: LinkedNode>(nodes: &mut Slab<N>, chain: N::Chain, gone: Link)
+/// Unlinks a node from a chain: joins its neighbours. `gone` was its link.
+pub fn detach<N: LinkedNode>(nodes: &mut Slab<N>, chain: N::Chain, gone: NodeLink)
     ensures nodes { (k : ℕ) → get nodes.new k ≡ option_map (detached (N.link_of chain) (N.with_link chain) gone k) (get nodes.old k) }
     ensures capacity { nodes.new.capacity ≡ nodes.old.capacity }
     ensures len { slab_len nodes.new ≡ slab_len nodes.old }

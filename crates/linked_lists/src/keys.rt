@@ -1,12 +1,12 @@
-//! The keys of nodes in an order that only proofs read. They take no memory, and their functions do nothing when they
-//! run.
+//! A list of the keys of nodes that only proofs see. It takes no memory, and its functions do
+//! nothing at run time.
 ghost use Rattle.std.specs.Prelude.{◌≡◌, ℕ, List, []};
 ghost use Rattle.std.specs.Borrow.{ftrue};
 ghost use Rattle.std.specs.Coded.{coded_list, coded_ℕ};
 
 use std::marker::Model;
 
-/// A list of keys, of which nothing is there when the program runs.
+/// A list of keys that exists only for proofs and is empty at run time.
 #[derive(Drop)]
 pub struct Keys {
     pub ghost keys: { List ℕ } by { coded_list coded_ℕ },
@@ -16,24 +16,26 @@ impl Model for Keys {
     ghost also_owns = { λ _. ftrue };
 }
 
-/// What happens to a list of keys: one goes last, or one leaves.
+/// A change of a list of keys.
 #[derive(Clone, Copy, Drop)]
 pub enum KeyStep {
+    /// A key becomes the last one.
     Append(usize),
+    /// A key leaves the list.
     Remove(usize),
 }
 
 impl Keys {
     ghost use Rattle.linked_lists.specs.KeySteps.{keys_after};
 
-    /// No keys.
+    /// Returns an empty list of keys.
     pub fn new() -> Keys
         ensures { result.keys ≡ [] }
     {
         Keys {}
     }
 
-    /// The keys after a step.
+    /// Returns the keys after a step.
     pub fn then(&self, _step: &KeyStep) -> Keys
         ensures { result.keys ≡ keys_after self.now.keys _step.now }
     {

@@ -2,34 +2,38 @@
 ghost use Rattle.std.specs.Prelude.{◌≡◌};
 ghost use Rattle.linked_lists.specs.Links.{no_link, no_ends, ends_with, ends_without};
 
-/// The keys of the nodes ahead of a node and behind it on a list.
+/// The keys of the nodes before and after a node on a list.
 #[derive(Clone, Copy, Drop)]
-pub struct Link {
+pub struct NodeLink {
+    /// The key of the node before, or `None` for the first.
     pub previous: Option<usize>,
+    /// The key of the node after, or `None` for the last.
     pub next: Option<usize>,
 }
 
-impl Link {
-    /// The link of a node that stands on no list, or alone on one.
-    pub fn none() -> Link
+impl NodeLink {
+    /// Returns the link of a node that is on no list, or alone on one.
+    pub fn none() -> NodeLink
         ensures { result ≡ no_link }
     {
-        Link {
+        NodeLink {
             previous: None,
             next: None,
         }
     }
 }
 
-/// The keys of the first and the last node of a list; none where it is empty.
+/// The keys of the first and the last node of a list. Both are `None` if the list is empty.
 #[derive(Clone, Copy, Drop)]
 pub struct Ends {
+    /// The key of the first node.
     pub first: Option<usize>,
+    /// The key of the last node.
     pub last: Option<usize>,
 }
 
 impl Ends {
-    /// The ends of an empty list.
+    /// Returns the ends of an empty list.
     pub fn none() -> Ends
         ensures { result ≡ no_ends }
     {
@@ -39,7 +43,7 @@ impl Ends {
         }
     }
 
-    /// The ends once one more node is last.
+    /// Returns the ends after one more node is attached.
     pub fn with(self, key: usize) -> Ends
         ensures { result ≡ ends_with self key }
     {
@@ -53,8 +57,8 @@ impl Ends {
         }
     }
 
-    /// The ends once a node with that link has left.
-    pub fn without(self, gone: Link) -> Ends
+    /// Returns the ends after a node with this link is detached.
+    pub fn without(self, gone: NodeLink) -> Ends
         ensures { result ≡ ends_without self gone }
     {
         Ends {

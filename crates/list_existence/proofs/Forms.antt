@@ -1,4 +1,4 @@
--- After lines of some forms each line has a form, or none.
+-- After lines of some forms each line has a form, or no form.
 use Rattle.std.proofs.Common.{◌≡◌, ◌⊎◌, ◌&&◌, ◌==◌, ℕ, Bool, false, List, Option, Some, None, refl, sym, ap, ◌∙◌, inl, inr, true≢false}
 use Rattle.std.specs.Prelude.{slice_index}
 use Rattle.std.specs.List.{list_any, Contains}

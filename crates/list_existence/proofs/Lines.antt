@@ -1,4 +1,4 @@
--- Each line is a section line or none, and a value line or none.
+-- Each line is a section line or is not, and a value line or is not.
 use Rattle.std.proofs.Common.{◌≡◌, ◌⊎◌, ◌&&◌, ◌||◌, ◌==◌, ℕ, Bool, true, not, List, [], ◌∷◌, ◌++◌, take, drop, refl, sym, ap, ◌∙◌, inl, inr, true≢false}
 use Rattle.std.specs.Prelude.{codes}
 use Rattle.std.specs.List.{list_all, take_while, prefix_len}

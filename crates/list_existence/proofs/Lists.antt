@@ -1,4 +1,4 @@
--- The lines of a text have forms, or one of them is the first that has none.
+-- The lines of a text have forms, or one of them is the first that has no form.
 use Rattle.std.proofs.Common.{◌≡◌, ◌⊎◌, ◌+◌, ℕ, List, [], ◌∷◌, ◌++◌, length, refl, sym, ap, subst, append_assoc, append-nil, inl, inr}
 use Rattle.sync_list.specs.Forms.{LineForm, HaveForms}
 use Rattle.sync_list.specs.Lines.{lines_of}
@@ -7,7 +7,7 @@ use Rattle.sync_list.specs.Reading.{IsBad}
 use Rattle.list_existence.specs.Laws.{ListsHaveAnswers}
 use Rattle.list_existence.proofs.Forms.{form_or_none}
 
--- After lines of some forms, the first of these lines have forms, and the next has none.
+-- After lines of some forms, the first of these lines have forms, and the next has no form.
 record Stops (before : List LineForm) (lines : List (List ℕ)) : Type 0 where
   pub front : List (List ℕ)
   pub line : List ℕ

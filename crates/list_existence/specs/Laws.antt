@@ -1,4 +1,4 @@
--- What there is by the definition of sync lists, for all texts.
+-- What exists by the definition of sync lists, for all texts.
 use Rattle.std.specs.Prelude.{ℕ, ◌⊎◌, List}
 use Rattle.sync_list.specs.declared.list.Section.{Section}
 use Rattle.sync_list.specs.Lists.{IsListOf, IsFirstBad}

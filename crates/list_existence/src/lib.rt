@@ -1,5 +1,5 @@
-//! That each text has an answer as a sync list: it spells sections, or has a first line that is not
-//! of the format. No function that runs.
+//! The law that each text has an answer as a sync list: it spells sections, or has a first line
+//! that is not of the format. There is no function that runs.
 #![tactic(auto)]
 
 mod laws;

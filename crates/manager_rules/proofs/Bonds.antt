@@ -29,7 +29,7 @@ protocol_within program file p there = go (slice_get program file) refl there
     go None e h = absurd (let x : ⊥ = cc in x)
     go (Some entry) e h = slice_get_within program file entry e
 
--- some name of a protocol that there may be is one of it
+-- a name of an optional protocol is a name of a protocol that is there
 some_names : {P : NameAt → Type 0} (side : Relation) (o : Option ProtocolDecl) → Any P (option_map_or (names_on side) o []) → (p : ProtocolDecl) × (o ≡ Some p) × Any P (names_on side p)
 some_names side None any = absurd (omega (arith, any.2))
 some_names side (Some p) any = (p, refl, any)
@@ -50,7 +50,7 @@ row_like side program file entry row at is =
       set = λ other. (λ c. to other ((is.set other).0 c), λ h. (is.set other).1 (from other h));
     }
 
--- one row more
+-- one more row
 pub rows_more : (side : Relation) (program : List Entry) (old : List ManagerRow) (file : ℕ) (entry : Entry) (one : ManagerRow) (new : List ManagerRow) → slice_get program file ≡ Some entry → length old ≡ file → new ≡ old ++ one ∷ [] → ((k : ℕ) (row : ManagerRow) → slice_get old k ≡ Some row → IsRow (HasBond side program k) row)
     → IsRow (λ other. Any (λ n. FindsOneProtocol program file n.name other) (names_in side entry)) one → (k : ℕ) (row : ManagerRow) → slice_get new k ≡ Some row → IsRow (HasBond side program k) row
 rows_more side program old file entry one new at long e before is k row there =
@@ -63,7 +63,7 @@ rows_more side program old file entry one new at long e before is k row there =
           )
     ]
 
--- a file without a row names none
+-- a file without a row names no protocol
 pub no_row : (side : Relation) (program : List Entry) (rows : List ManagerRow) (file other : ℕ) → AreRows side program rows → slice_get rows file ≡ None → ¬ HasBond side program file other
 no_row side program rows file other are none bond =
     elim (slice_get_cases rows file).1 [
@@ -71,14 +71,14 @@ no_row side program rows file other are none bond =
       | inr h ↦ (let within = protocol_within program file bond.protocol bond.there in omega (arith, within, h.0, are.size))
     ]
 
--- the managers are the bonds on their side
+-- the managers are the bonds of their relation
 pub bond_of : (program : List Entry) (file other : ℕ) → HasManager program file other → HasBond Managers program file other
 bond_of program file other h = record { protocol = h.protocol; there = h.there; names = h.names }
 
 pub manager_of : (program : List Entry) (file other : ℕ) → HasBond Managers program file other → HasManager program file other
 manager_of program file other h = record { protocol = h.protocol; there = h.there; names = h.names }
 
--- a file's protocol names another on a side where there is such a bond
+-- a file's protocol names another in a relation if there is such a bond
 pub bond_names : (side : Relation) (program : List Entry) (file other : ℕ) (p : ProtocolDecl) (told : Bool) → protocol_of program file ≡ Some p → Decides told (HasBond side program file other) → Decides told (NamesOn side program file p other)
 bond_names side program file other p told there decides =
     Decides-like told

@@ -1,4 +1,4 @@
--- What an answer on how many there are tells of the one.
+-- What the number of found declarations means for a single one.
 use Rattle.std.proofs.Common.{◌≡◌, ℕ, ap, sym, ◌∙◌}
 use Rattle.name_table.specs.declared.decl.DeclId.{DeclId}
 use Rattle.name_table.specs.declared.decl.DeclId.TheVariants.{Protocol}
@@ -6,7 +6,7 @@ use Rattle.name_table.specs.declared.decl.Found.{Found}
 use Rattle.name_table.specs.declared.decl.Found.TheVariants as found
 use Rattle.name_table.specs.Finds.{Counts}
 
--- where there is exactly one, the answer is that one
+-- if there is exactly one, the answer is that one
 pub counted_one : (P : DeclId → Type 0) (answer : Found) (d : DeclId) → Counts P answer → Counts P (found.One d) → answer ≡ found.One d
 counted_one P found.None d counts one = absurd (counts d one.0)
 counted_one P (found.One e) d counts one = ap found.One (one.1 e counts.0)

@@ -1,4 +1,4 @@
--- Whether managers lead from a protocol to another one and back, by marks.
+-- Whether managers lead from a protocol to another protocol and back, by marks.
 use Rattle.std.proofs.Common.{◌≡◌, ◌≢◌, ◌⊎◌, ◌∙◌, inl, inr, ◌<◌, ℕ, Bool, true, false, List, [], ◌∷◌, ◌++◌, length, refl, sym, ap, subst, arith, eqb, not}
 use Rattle.std.specs.Prelude.{◌↔◌, nat_eq}
 use Rattle.std.specs.Cmp.{nat_eq_equiv}
@@ -12,34 +12,34 @@ use Rattle.name_table.proofs.Marking.{the_one, has_one}
 use Rattle.manager_rules.specs.Managers.{HasManager, LeadsTo, one, more, IsInCycle}
 use Rattle.manager_rules.proofs.Bonds.{protocol_within}
 
--- one path, and another behind it
+-- one path, and another after it
 joined : {program : List Entry} {a b c : ℕ} → LeadsTo program a b → LeadsTo program b c → LeadsTo program a c
 joined (one h) rest = more h rest
 joined (more h path) rest = more h (joined path rest)
 
--- what leads on is a file of the program
+-- a file from which managers lead is one of the program
 leads_within : {program : List Entry} {a b : ℕ} → LeadsTo program a b → a < length program
 leads_within {program} {a} {b} (one h) = protocol_within program a h.protocol h.there
 leads_within {program} {a} {b} (more h path) = protocol_within program a h.protocol h.there
 
--- a file to which managers lead from one, the first of them another than that
+-- a file to which managers lead from another file, the first of them not that file
 pub record Comes (program : List Entry) (from n : ℕ) : Type 0 where
   pub first : ℕ
   pub differs : first ≢ from
   pub manages : HasManager program from first
   pub on : (first ≡ n) ⊎ LeadsTo program first n
 
--- a path to another file and back leaves by a manager other than the file itself, behind any steps to itself
+-- a path to another file and back leaves by a manager other than the file itself, after any steps to itself
 first_other : {program : List Entry} {a other : ℕ} (from : ℕ) → a ≡ from → other ≢ from → LeadsTo program other from → LeadsTo program a other → (m : ℕ) × (m ≢ from) × HasManager program from m × LeadsTo program m from
 first_other {program} {a} {other} from same differs back (one h) = (other, differs, (let P : ℕ → Type 0 = λ k. HasManager program k other in subst P same h), back)
 first_other {program} {a} {other} from same differs back (more {file} {middle} {other = last} h path) = go (λ e. first_other from e differs back path) (eqb_tells middle from)
   where
     go : (middle ≡ from → (m : ℕ) × (m ≢ from) × HasManager program from m × LeadsTo program m from) → ((eqb middle from ≡ true) × (middle ≡ from)) ⊎ ((eqb middle from ≡ false) × (middle ≢ from)) → (m : ℕ) × (m ≢ from) × HasManager program from m × LeadsTo program m from
-    go behind (inl e) = behind e.1
-    go behind (inr ne) = (middle, ne.1, (let P : ℕ → Type 0 = λ k. HasManager program k middle in subst P same h), joined path back)
+    go following (inl e) = following e.1
+    go following (inr ne) = (middle, ne.1, (let P : ℕ → Type 0 = λ k. HasManager program k middle in subst P same h), joined path back)
 
--- Marks while managers are followed from those of a file other than itself: each has a path, those in the work are marked, of any
--- other the managers are marked, and the file itself is marked only where it is in the work.
+-- Marks while managers are followed from those of a file other than itself: each has a path, those in the work are
+-- marked, and of any other marked file the managers are marked. The file itself is marked only if it is in the work.
 pub record Searches (program : List Entry) (from : ℕ) (marks : List Bool) (work : List ℕ) : Type 0 where
   pub size : length marks ≡ length program
   pub sound : (n : ℕ) → IsMarked marks n → Comes program from n
@@ -77,7 +77,7 @@ searches_first program from others a b v size bare are m = record {
   met = λ h. elim (m.added from h) [ inl o ↦ absurd (bare from o) | inr c ↦ c ];
 }
 
--- managers of what is reached are reached
+-- the managers of reached files are reached
 comes_on : (program : List Entry) (from x n : ℕ) → Comes program from x → HasManager program x n → Comes program from n
 comes_on program from x n c h = record {
   first = c.first;
@@ -115,13 +115,13 @@ searches_more program from a u x managers b v differs are f m =
       ];
     }
 
--- what is marked with no work left leads to nothing but what is marked
+-- if no work is left, marked files lead to marked files alone
 complete : {program : List Entry} {from : ℕ} {marks : List Bool} → Searches program from marks [] → {a b : ℕ} → LeadsTo program a b → b < length program → IsMarked marks a → IsMarked marks b
 complete f {a} {b} (one h) below mark = elim (f.closed a mark) [ inl c ↦ none_left a c | inr next ↦ next b h below ]
 complete f {a} {b} (more {file} {middle} {other = last} h path) below mark =
     elim (f.closed a mark) [ inl c ↦ none_left a c | inr next ↦ complete f path below (next middle h (leads_within path)) ]
 
--- where the file itself is met it is in a cycle
+-- if the file itself is met, it is in a cycle
 pub cycle_met : (program : List Entry) (from : ℕ) (marks : List Bool) (work : List ℕ) → Searches program from marks work → Contains work from → IsInCycle program from
 cycle_met program from marks work f c =
     let comes = f.sound from (f.waiting from c) in
@@ -132,13 +132,13 @@ cycle_met program from marks work f c =
       back = elim comes.on [ inl e ↦ absurd (comes.differs e) | inr path ↦ path ];
     }
 
--- and where nothing is left it is in none
+-- if nothing is left, the file is in no cycle
 pub no_cycle : (program : List Entry) (from : ℕ) (marks : List Bool) → Searches program from marks [] → ¬ IsInCycle program from
 no_cycle program from marks f is =
     let m = first_other from refl is.differs is.back is.there in
     none_left from (f.met (complete f m.3 (leads_within is.there) (f.begun m.0 m.1 m.2 (leads_within m.3))))
 
--- with no other manager a protocol is in none
+-- without another manager a protocol is in no cycle
 pub alone : (program : List Entry) (from : ℕ) (others : List ℕ) → others ≡ [] → ((n : ℕ) → Contains others n ↔ (HasManager program from n × (n ≢ from))) → ¬ IsInCycle program from
 alone program from others none are is =
     let m = first_other from refl is.differs is.back is.there in

@@ -1,4 +1,4 @@
--- What a name finds, with what holds of it.
+-- What a name finds, with its properties.
 use Rattle.std.proofs.Common.{◌≡◌, ◌∙◌, ℕ, Bool, List, Some, sym, ap, subst}
 use Rattle.std.specs.Bool.{Decides}
 use Rattle.std.proofs.lemmas.Option.{same_Some}
@@ -10,7 +10,7 @@ use Rattle.name_table.specs.Finds.{FindsAsProtocol}
 use Rattle.manager_rules.specs.Broken.{FindsWith}
 use Rattle.manager_rules.proofs.Counted.{one_number}
 
--- what holds of the one protocol that is found
+-- a property of the one protocol that is found
 pub with_told : (Holds : ℕ → ProtocolDecl → Type 0) (program : List Entry) (file : ℕ) (name : List ℕ) (other : ℕ) (q : ProtocolDecl) (told : Bool) → FindsOneProtocol program file name other → protocol_of program other ≡ Some q → Decides told (Holds other q) → Decides told (FindsWith Holds program file name)
 with_told Holds program file name other q told finds there decides =
     Decides-like told

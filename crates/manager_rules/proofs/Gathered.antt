@@ -10,12 +10,12 @@ use Rattle.findings.specs.Adds.{Adds}
 use Rattle.findings.specs.Gains.{Gains, AtSome}
 use Rattle.findings.proofs.Gains.{Adds-none, Adds-like, Adds-push, Adds-more}
 
--- a finding where this holds
+-- a finding if this holds
 pub adds_here : (rule : Rule) (at : Place) (P : Type 0) (old new : List Finding) → P → new ≡ old ++ record { place = at; rule = rule } ∷ [] → Adds rule (λ place. P × (at ≡ place)) old new
 adds_here rule at P old new holds e =
     rw e (Adds-like rule (λ place. at ≡ place) (λ place. P × (at ≡ place)) old _ (Adds-push rule at old) (λ place h. (holds, h)) (λ place h. h.1))
 
--- none where it does not
+-- no finding otherwise
 pub adds_nothing : (rule : Rule) (P : Place → Type 0) (old new : List Finding) → ((place : Place) → ¬ P place) → new ≡ old → Adds rule P old new
 adds_nothing rule P old new never e = rw e (Adds-none rule P old never)
 
@@ -23,14 +23,14 @@ adds_nothing rule P old new never e = rw e (Adds-none rule P old never)
 pub adds_first : {X : Type 0} (rule : Rule) (P : Place → X → Type 0) (old : List Finding) → Adds rule (λ place. Any (P place) []) old old
 adds_first rule P old = Adds-none rule (λ place. Any (P place) []) old (λ place h. omega (arith, h.2))
 
--- a finding at the next element, of which this holds
+-- a finding at the next element, with this property
 pub adds_hit : {X : Type 0} (rule : Rule) (P : X → Type 0) (place_of : X → Place) (xs : List X) (i : ℕ) (x : X) (a b c : List Finding) → i < length xs → x ≡ get_or xs i x → P x → c ≡ b ++ record { place = place_of x; rule = rule } ∷ []
     → Adds rule (λ place. Any (λ y. P y × (place_of y ≡ place)) (take i xs)) a b → Adds rule (λ place. Any (λ y. P y × (place_of y ≡ place)) (take (i + 1) xs)) a c
 adds_hit {X} rule P place_of xs i x a b c lt at holds e before =
     let Q : X → Type 0 = λ y. Adds rule (λ place. P y × (place_of y ≡ place)) b c in
     Adds-more rule (λ place y. P y × (place_of y ≡ place)) xs i x a b c lt before (subst Q at (adds_here rule (place_of x) (P x) b c holds e))
 
--- none at the next element, of which it does not
+-- no finding at the next element, which does not have the property
 pub adds_miss : {X : Type 0} (rule : Rule) (P : X → Type 0) (place_of : X → Place) (xs : List X) (i : ℕ) (x : X) (a b c : List Finding) → i < length xs → x ≡ get_or xs i x → ¬ P x → c ≡ b
     → Adds rule (λ place. Any (λ y. P y × (place_of y ≡ place)) (take i xs)) a b → Adds rule (λ place. Any (λ y. P y × (place_of y ≡ place)) (take (i + 1) xs)) a c
 adds_miss {X} rule P place_of xs i x a b c lt at never e before =
@@ -41,7 +41,7 @@ adds_miss {X} rule P place_of xs i x a b c lt at never e before =
 pub gains_of : (rule : Rule) (P : Place → Type 0) (a b : List Finding) → Adds rule P a b → Gains (λ f. (f.rule ≡ rule) × P f.place) a b
 gains_of rule P a b adds = record { exact = adds.exact }
 
--- the same, said by another word
+-- the same, in other words
 pub gains_like : (P Q : Finding → Type 0) (a b : List Finding) → ((f : Finding) → P f → Q f) → ((f : Finding) → Q f → P f) → Gains P a b → Gains Q a b
 gains_like P Q a b to from g = record {
   exact = λ f. (
@@ -50,11 +50,11 @@ gains_like P Q a b to from g = record {
   );
 }
 
--- nothing, where it holds nowhere
+-- no finding if the property holds nowhere
 pub gains_none : (P : Finding → Type 0) (a b : List Finding) → b ≡ a → ((f : Finding) → ¬ P f) → Gains P a b
 gains_none P a b e never = rw e (record { exact = λ f. (λ c. inl c, λ h. elim h [ inl old ↦ old | inr p ↦ absurd (never f p) ]) })
 
--- one gain, and another behind it
+-- one gain, and another after it
 pub gains_both : (P Q : Finding → Type 0) (a b c : List Finding) → Gains P a b → Gains Q b c → Gains (λ f. P f ⊎ Q f) a c
 gains_both P Q a b c g h = record {
   exact = λ f. (

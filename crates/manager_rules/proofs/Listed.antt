@@ -18,7 +18,7 @@ gathers_one {X} Holds xs i x n old new lt at here only e told m = rw e (
   ],
 )
 
--- the next element gives none
+-- the next element gives no finding
 pub gathers_none : {X : Type 0} (Holds : X → ℕ → Type 0) (xs : List X) (i : ℕ) (x : X) (old new : List ℕ) → i < length xs → x ≡ get_or xs i x → ((m : ℕ) → ¬ Holds x m) → new ≡ old → ((m : ℕ) → Contains old m ↔ Any (λ y. Holds y m) (take i xs)) → (m : ℕ) → Contains new m ↔ Any (λ y. Holds y m) (take (i + 1) xs)
 gathers_none {X} Holds xs i x old new lt at none e told m = rw e (
   λ c. any_before (λ y. Holds y m) xs i x lt ((told m).0 c),

@@ -11,7 +11,7 @@ use Rattle.manager_rules.specs.declared.breach.ManagerBreach.TheVariants.{Strong
 use Rattle.manager_rules.specs.Broken.{SomeProtocol, BrokenAt}
 use Rattle.manager_rules.specs.InProtocol.{BreaksAt, UnknownIn, UnansweredIn, CycleIn, UndestroyedIn, UnmanagedIn, RepeatedIn, NamesBroken, RestBroken, BrokenIn}
 
--- what follows for one protocol follows for some
+-- a conclusion from a property of an optional protocol
 some_like : (o : Option ProtocolDecl) (P Q : ProtocolDecl → Type 0) → ((p : ProtocolDecl) → P p → Q p) → IsSomeAnd o P → IsSomeAnd o Q
 some_like None P Q to h = h
 some_like (Some p) P Q to h = to p h
@@ -23,7 +23,7 @@ some_either : (o : Option ProtocolDecl) (P Q : ProtocolDecl → Type 0) → IsSo
 some_either None P Q h = inl h
 some_either (Some p) P Q h = h
 
--- either holds of some protocol where one does
+-- if one of two properties holds of some protocol, then one of them holds of some protocol
 protocol_either : (P Q : ℕ → ProtocolDecl → Type 0) (program : List Entry) → SomeProtocol (λ file p. P file p ⊎ Q file p) program → SomeProtocol P program ⊎ SomeProtocol Q program
 protocol_either P Q program (file, e, at, h) = elim (some_either e.unit.protocol (P file) (Q file) h) [ inl p ↦ inl (file, e, at, p) | inr q ↦ inr (file, e, at, q) ]
 
@@ -100,7 +100,7 @@ broken_to program f h = elim (protocol_either (λ file p. NamesBroken program fi
   ]
 ]
 
--- and what breaks it does so in some protocol
+-- what breaks the rule breaks it in some protocol
 pub broken_from : (program : List Entry) (f : Finding) → BrokenAt program f → SomeProtocol (λ file p. BrokenIn program file p f) program
 broken_from program f h =
     either_from (λ file p. NamesBroken program file p f) (λ file p. RestBroken program file p f) program

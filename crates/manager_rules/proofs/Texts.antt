@@ -14,7 +14,7 @@ cond_or true false = refl
 cond_or false true = refl
 cond_or false false = refl
 
--- a name that was put in is among the names from then on
+-- a name that was added is among the names from then on
 pub named_more : (messages : List MessageDecl) (i : ℕ) (d : MessageDecl) (key name : List ℕ) (before after : Bool) → i < length messages → key ≡ (get_or messages i d).name → after ≡ cond (pointwise nat_eq key name) true before → before ≡ list_any (λ m. pointwise nat_eq m.name name) (take i messages)
     → after ≡ list_any (λ m. pointwise nat_eq m.name name) (take (i + 1) messages)
 named_more messages i d key name before after lt is put old =

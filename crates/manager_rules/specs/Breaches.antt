@@ -1,4 +1,4 @@
--- What a protocol's name of another can do against the rules, one rule for each breach. These serve the code alone.
+-- The rules that a protocol's name of another protocol can break, one for each breach. These serve the code alone.
 use Rattle.std.specs.Prelude.{ℕ, List}
 use Rattle.ipdl_base.specs.declared.finding.Rule.{Rule}
 use Rattle.ipdl_base.specs.declared.finding.TheConstants.Rule as rule
@@ -21,14 +21,14 @@ rule_of (Unanswered side) = rule.MANAGER_DISAGREEMENT
 rule_of Stronger = rule.STRONGER_PROTOCOL
 rule_of Unconstructed = rule.MISSING_CONSTRUCTOR
 
--- the names that can break it
+-- the relation whose names can break it
 abbrev pub side_of : ManagerBreach → Relation
 side_of (Unknown side) = side
 side_of (Unanswered side) = side
 side_of Stronger = Managers
 side_of Unconstructed = Managed
 
--- in a protocol, which is that of a file, a name breaks it
+-- a name of the protocol of a file breaks this rule
 abbrev pub Breaks : ManagerBreach → List Entry → ℕ → ProtocolDecl → NameAt → Type 0
 Breaks (Unknown side) program file p n = FindsNoProtocol program file n.name
 Breaks (Unanswered side) program file p n = FindsWith (λ other q. ¬ NamesOn (other_side side) program other q file) program file n.name

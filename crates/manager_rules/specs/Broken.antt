@@ -1,4 +1,4 @@
--- The rules on managers and on what protocols manage, where a program breaks them.
+-- The rules on managers and managed protocols, and the places at which a program breaks them.
 use Rattle.std.specs.Prelude.{◌≡◌, ◌≢◌, ℕ, ◌⊎◌, List, [], map, Some, IsSomeAnd, codes}
 use Rattle.std.specs.List.{Any}
 use Rattle.ipdl_base.specs.declared.finding.Finding.{Finding}
@@ -18,7 +18,7 @@ use Rattle.manager_rules.specs.Managers.{NamesManager, Manages, IsInCycle}
 abbrev pub SomeProtocol : (ℕ → ProtocolDecl → Type 0) → List Entry → Type 0
 SomeProtocol Holds program = AtSome (λ file e. IsSomeAnd e.unit.protocol (Holds file)) program
 
--- a name at this place, of which this holds
+-- a name at this place has this property
 abbrev pub AtName : (NameAt → Type 0) → Place → List NameAt → Type 0
 AtName Holds place names = Any (λ n. Holds n × (n.place ≡ place)) names
 
@@ -26,7 +26,7 @@ AtName Holds place names = Any (λ n. Holds n × (n.place ≡ place)) names
 abbrev pub HasMessage : ProtocolDecl → List ℕ → Type 0
 HasMessage p name = Any (λ m. m.name ≡ name) p.messages
 
--- in a file a name finds exactly one protocol, and this holds of the number of its file and of it
+-- in a file a name finds exactly one protocol, and this holds of the number of the protocol's file and of the protocol
 pub record FindsWith (Holds : ℕ → ProtocolDecl → Type 0) (program : List Entry) (file : ℕ) (name : List ℕ) : Type 0 where
   pub other : ℕ
   pub finds : FindsOneProtocol program file name other
@@ -34,12 +34,12 @@ pub record FindsWith (Holds : ℕ → ProtocolDecl → Type 0) (program : List E
   pub there : protocol_of program other ≡ Some protocol
   pub holds : Holds other protocol
 
--- B8: a name behind `manager` or `manages` finds no protocol
+-- B8: a name after `manager` or `manages` finds no protocol
 abbrev pub IsUnknownProtocol : List Entry → Place → Type 0
 IsUnknownProtocol program place =
     SomeProtocol (λ file p. AtName (λ n. FindsNoProtocol program file n.name) place p.managers ⊎ AtName (λ n. FindsNoProtocol program file n.name) place p.manages) program
 
--- B9: a protocol manages another that does not name it as manager, or has a manager that does not manage it
+-- B9: a protocol manages another that does not name it as a manager, or has a manager that does not manage it
 abbrev pub IsDisagreement : List Entry → Place → Type 0
 IsDisagreement program place =
     SomeProtocol (λ file p.
@@ -51,11 +51,11 @@ abbrev pub IsStrongerThanManager : List Entry → Place → Type 0
 IsStrongerThanManager program place =
     SomeProtocol (λ file p. AtName (λ n. FindsWith (λ other m. ¬ Converts (strength_of_protocol p) (strength_of_protocol m)) program file n.name) place p.managers) program
 
--- B17: managers lead from a protocol to another one and back
+-- B17: managers lead from a protocol to another protocol and back
 abbrev pub IsManagerCycle : List Entry → Place → Type 0
 IsManagerCycle program place = SomeProtocol (λ file p. IsInCycle program file × (p.place ≡ place)) program
 
--- B18: a protocol manages another, and has no message of the name that it manages it by
+-- B18: a protocol manages another, and has no message with the name by which it manages it
 abbrev pub IsMissingConstructor : List Entry → Place → Type 0
 IsMissingConstructor program place =
     SomeProtocol (λ file p. AtName (λ n. FindsWith (λ other q. ¬ HasMessage p n.name) program file n.name) place p.manages) program
@@ -70,7 +70,7 @@ abbrev pub IsUnmanagedConstructor : List Entry → Place → Type 0
 IsUnmanagedConstructor program place =
     SomeProtocol (λ file p. Any (λ m. FindsWith (λ other q. ¬ Manages program file p other) program file m.name × (m.place ≡ place)) p.messages) program
 
--- the names of these with their places
+-- these names with their places
 abbrev pub names_at : List NameAt → List (List ℕ × Place)
 names_at names = map (λ n. (n.name, n.place)) names
 

@@ -1,5 +1,5 @@
--- The rules on managers at one protocol of a program, which is that of a file. These serve the code alone: each is what the
--- rule in Broken says of some protocol.
+-- The rules on managers at the protocol of one file of a program. These serve the code alone: each is the part for
+-- one protocol of the rule in Broken.
 use Rattle.std.specs.Prelude.{◌≡◌, ◌≢◌, ℕ, ◌⊎◌, List, [], codes}
 use Rattle.std.specs.List.{Any}
 use Rattle.ipdl_base.specs.declared.finding.Finding.{Finding}
@@ -17,7 +17,7 @@ use Rattle.manager_rules.specs.Broken.{AtName, FindsWith, HasMessage, names_at, 
 use Rattle.manager_rules.specs.Managers.{Manages, IsInCycle}
 use Rattle.manager_rules.specs.Sides.{names_on}
 
--- a name at this place does this
+-- a name at this place breaks this rule
 abbrev pub BreaksAt : ManagerBreach → List Entry → ℕ → ProtocolDecl → Place → Type 0
 BreaksAt breach program file p place = AtName (Breaks breach program file p) place (names_on (side_of breach) p)
 
@@ -61,6 +61,6 @@ RestBroken program file p f =
     ⊎ (((f.rule ≡ rule.UNMANAGED_CONSTRUCTOR) × UnmanagedIn program file p p.messages f.place)
     ⊎ ((f.rule ≡ rule.REPEATED_NAME) × RepeatedIn p f.place)))
 
--- the finding is one of this protocol
+-- the finding is one of this protocol's
 abbrev pub BrokenIn : List Entry → ℕ → ProtocolDecl → Finding → Type 0
 BrokenIn program file p f = NamesBroken program file p f ⊎ RestBroken program file p f

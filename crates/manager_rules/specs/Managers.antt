@@ -1,4 +1,4 @@
--- Which protocols manage which, by what the names behind `manager` and `manages` find.
+-- Which protocols manage which, by what the names after `manager` and `manages` find.
 use Rattle.std.specs.Prelude.{◌≡◌, ◌≢◌, ℕ, List, Some}
 use Rattle.std.specs.List.{Any}
 use Rattle.ipdl_syntax.specs.declared.program.Entry.{Entry}
@@ -19,12 +19,12 @@ pub record HasManager (program : List Entry) (file other : ℕ) : Type 0 where
   pub there : protocol_of program file ≡ Some protocol
   pub names : NamesManager program file protocol other
 
--- By managers, and by managers of these, one file's protocol leads to another's: a path of one step at least.
+-- Managers, and managers of these, lead from one file's protocol to another's in at least one step.
 pub data LeadsTo (program : List Entry) : ℕ → ℕ → Type 0 where
   one : {file other : ℕ} → HasManager program file other → LeadsTo program file other
   more : {file middle other : ℕ} → HasManager program file middle → LeadsTo program middle other → LeadsTo program file other
 
--- managers lead from the protocol of a file to another one, and from there back
+-- managers lead from the protocol of a file to another protocol, and from there back
 pub record IsInCycle (program : List Entry) (file : ℕ) : Type 0 where
   pub other : ℕ
   pub differs : other ≢ file

@@ -1,3 +1,5 @@
+//! The rules on the names that a protocol has for its managers and managed protocols.
+
 ghost use Rattle.std.specs.Prelude.{◌≡◌, ◌↔◌, IsTrue};
 ghost use Rattle.name_table.specs.Kinds.{strength_of_protocol, Converts};
 ghost use Rattle.manager_rules.specs.Breaches.{Breaks};
@@ -15,23 +17,23 @@ use ipdl_base::{Name, Rule};
 use ipdl_syntax::NameAt;
 use name_table::Strength;
 
-/// What a protocol's name of another can do against the rules.
+/// A rule that a protocol's name of another protocol can break, by what the name does.
 #[derive(Clone, Copy)]
 pub enum ManagerBreach {
-    /// It finds no protocol.
+    /// The name finds no protocol.
     Unknown(Relation),
-    /// The protocol that it finds does not name this one on the other side.
+    /// The name finds a protocol that does not name this one in the other relation.
     Unanswered(Relation),
-    /// It finds a manager to which the protocol does not convert.
+    /// The name finds a manager to which the protocol does not convert.
     Stronger,
-    /// It finds a protocol to be managed, and no message has the name.
+    /// The name of a managed protocol finds a protocol, and no message has this name.
     Unconstructed,
 }
 
 impl ManagerBreach {
     ghost use Rattle.manager_rules.specs.Breaches.{rule_of, side_of};
 
-    /// The rule that is broken.
+    /// Returns the rule that is broken.
     pub fn rule(self) -> Rule
         ensures { result ≡ rule_of self }
     {
@@ -43,7 +45,7 @@ impl ManagerBreach {
         }
     }
 
-    /// The names that can break it.
+    /// Returns the relation whose names can break it.
     pub fn side(self) -> Relation
         ensures { result ≡ side_of self }
     {
@@ -56,7 +58,7 @@ impl ManagerBreach {
     }
 }
 
-/// Whether the protocol that a name finds does not name the subject on the other side.
+/// Returns whether the protocol that a name finds does not name the subject on the other side.
 fn is_unanswered(
     known: &ManagementGraph<'_, '_>,
     subject: &Subject<'_>,
@@ -74,7 +76,7 @@ fn is_unanswered(
     }
 }
 
-/// Whether a name finds a manager to which the subject does not convert.
+/// Returns whether a name finds a manager to which the subject does not convert.
 fn is_stronger(known: &ManagementGraph<'_, '_>, subject: &Subject<'_>, name: &Name) -> bool
     requires known { IsKnown known.now }
     ensures { IsTrue result ↔ FindsWith
@@ -90,7 +92,7 @@ fn is_stronger(known: &ManagementGraph<'_, '_>, subject: &Subject<'_>, name: &Na
     }
 }
 
-/// Whether a name finds a protocol, and the subject has no message of the name.
+/// Returns whether a name finds a protocol, and the subject has no message of the name.
 fn is_unconstructed(known: &ManagementGraph<'_, '_>, subject: &Subject<'_>, name: &Name) -> bool
     requires known { IsKnown known.now }
     requires subject { IsSubject known.now.program.now subject.now }
@@ -102,7 +104,7 @@ fn is_unconstructed(known: &ManagementGraph<'_, '_>, subject: &Subject<'_>, name
     }
 }
 
-/// Whether a name finds a protocol that the subject does not manage.
+/// Returns whether a name finds a protocol that the subject does not manage.
 pub fn is_unmanaged(known: &ManagementGraph<'_, '_>, subject: &Subject<'_>, name: &Name) -> bool
     requires known { IsKnown known.now }
     requires subject { IsSubject known.now.program.now subject.now }
@@ -116,7 +118,7 @@ pub fn is_unmanaged(known: &ManagementGraph<'_, '_>, subject: &Subject<'_>, name
     }
 }
 
-/// Whether a name does this against a rule.
+/// Returns whether a name breaks this rule.
 pub fn breaks(
     known: &ManagementGraph<'_, '_>,
     subject: &Subject<'_>,

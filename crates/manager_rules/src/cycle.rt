@@ -1,3 +1,5 @@
+//! Searches for cycles of managers.
+
 ghost use Rattle.std.specs.Prelude.{◌≡◌, ◌<◌, ◌↔◌, ◌∷◌, ◌==◌, [], length, IfOk, OnOk, IsTrue};
 ghost use Rattle.std.specs.Prelude.{not};
 ghost use Rattle.std.specs.List.{filter};
@@ -8,7 +10,7 @@ ghost use Rattle.manager_rules.specs.Managers.{IsInCycle};
 use crate::known::ManagementGraph;
 use std::alloc::{AllocError, Global};
 
-/// Marks a file, which joins the work where it is new. What is no file gets no mark.
+/// Marks a file, and adds it to the work if it had no mark. A number without a file gets no mark.
 fn mark(file: u32, marks: &mut Vec<bool>, work: &mut Vec<u32>) -> Result<(), AllocError>
     ensures { OnOk result (Marks (file ∷ []) marks.old.items work.old.items marks.new.items work.new.items) }
 {
@@ -20,7 +22,7 @@ fn mark(file: u32, marks: &mut Vec<bool>, work: &mut Vec<u32>) -> Result<(), All
     Ok(())
 }
 
-/// Marks files.
+/// Marks each of these files.
 fn mark_all(files: &[u32], marks: &mut Vec<bool>, work: &mut Vec<u32>) -> Result<(), AllocError>
     ensures { OnOk result (Marks files.now marks.old.items work.old.items marks.new.items work.new.items) }
 {
@@ -30,7 +32,7 @@ fn mark_all(files: &[u32], marks: &mut Vec<bool>, work: &mut Vec<u32>) -> Result
     Ok(())
 }
 
-/// These files without one.
+/// Returns these files without one of them.
 fn without(alloc: Global, files: &[u32], one: u32) -> Result<Vec<u32>, AllocError>
     ensures { IfOk result (λ others. others.items ≡ filter (λ n. not (n == one)) files.now) }
 {
@@ -41,8 +43,8 @@ fn without(alloc: Global, files: &[u32], one: u32) -> Result<Vec<u32>, AllocErro
         .collect(alloc)
 }
 
-/// Whether managers lead from the protocol of a file to another one and back: whether a manager other than itself leads
-/// back to it. Each file is looked at once.
+/// Returns whether managers lead from the protocol of a file to another protocol and back: whether
+/// a manager other than itself leads back to it. Each file is looked at once.
 pub fn is_in_cycle(
     alloc: Global,
     known: &ManagementGraph<'_, '_>,

@@ -1,3 +1,5 @@
+//! The relations of management between the protocols of a program.
+
 ghost use Rattle.std.specs.Prelude.{◌≡◌, ◌≢◌, ◌≤◌, ◌↔◌, ℕ, length, Some, IfOk, IfSome, IfNone, IsTrue};
 ghost use Rattle.std.specs.List.{Contains};
 ghost use Rattle.ipdl_syntax.specs.declared.tree.ProtocolDecl.{ProtocolDecl};
@@ -13,21 +15,23 @@ use ipdl_syntax::{Entry, ProtocolDecl};
 use name_table::{Names, protocol_of};
 use std::alloc::{AllocError, Global};
 
-/// A program, what its names find, and which of its protocols name which.
+/// A program, the table of its names, and for each protocol the protocols that it names.
 #[derive(Drop)]
 pub struct ManagementGraph<'a, 'p> {
+    /// The program.
     pub program: &'a [Entry],
+    /// The table of its names.
     pub names: &'a Names<'p>,
-    /// For each file the managers that its protocol names.
+    /// For each file, the managers that its protocol names.
     pub managers: Vec<ManagerRow>,
-    /// For each file the protocols that its protocol manages.
+    /// For each file, the protocols that its protocol manages.
     pub managed: Vec<ManagerRow>,
 }
 
 impl<'a, 'p> ManagementGraph<'a, 'p> {
     ghost use Rattle.manager_rules.specs.Knowing.{IsKnown};
 
-    /// What is known of a program.
+    /// Builds the relations of a program.
     pub fn of(
         alloc: Global,
         program: &'a [Entry],
@@ -46,7 +50,7 @@ impl<'a, 'p> ManagementGraph<'a, 'p> {
         })
     }
 
-    /// The rows of the names on a side.
+    /// Returns the rows of one of the relations.
     fn rows(&self, side: Relation) -> &[ManagerRow]
         requires { IsKnown self.now }
         ensures { AreRows side self.now.program.now result.now }
@@ -57,7 +61,7 @@ impl<'a, 'p> ManagementGraph<'a, 'p> {
         }
     }
 
-    /// Whether the protocol of a file names that of another on a side.
+    /// Returns whether the protocol of a file names that of another file in this relation.
     pub fn has_bond(&self, side: Relation, file: u32, other: u32) -> bool
         requires { IsKnown self.now }
         ensures { IsTrue result ↔ HasBond side self.now.program.now file other }
@@ -68,7 +72,7 @@ impl<'a, 'p> ManagementGraph<'a, 'p> {
         }
     }
 
-    /// The files of the managers of a file's protocol.
+    /// Returns the files of the managers of a file's protocol.
     pub fn managers_of(&self, file: u32) -> &[u32]
         requires { IsKnown self.now }
         ensures { (other : ℕ) → Contains result.now other ↔ HasManager self.now.program.now file other }
@@ -79,7 +83,8 @@ impl<'a, 'p> ManagementGraph<'a, 'p> {
         }
     }
 
-    /// The protocol that a name finds in a file, with the number of its own file, where it finds exactly one.
+    /// Returns the protocol that a name finds in a file, with the number of its own file, or `None`
+    /// if the name does not find exactly one.
     pub fn find(&self, file: u32, name: &Name) -> Option<(u32, &'a ProtocolDecl)>
         requires { IsKnown self.now }
         ensures some { IfSome result (λ found. FindsOneProtocol self.now.program.now file name.now found.0

@@ -1,4 +1,5 @@
-//! The rules on managers: who manages whom, constructors and destructors, cycles, repeated names (docs/protocols.md).
+//! The rules on managers: managers and managed protocols, constructors and destructors, cycles,
+//! repeated names (docs/protocols.md).
 #![tactic(auto)]
 
 mod breach;

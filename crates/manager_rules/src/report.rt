@@ -1,3 +1,5 @@
+//! Adds the findings of the rules on managers.
+
 ghost use Rattle.std.specs.Prelude.{◌≡◌, ◌≤◌, length, map, slice_get, Some, IfOk, OnOk, IsSomeAnd};
 ghost use Rattle.findings.specs.Adds.{Adds};
 ghost use Rattle.findings.specs.Gains.{Gains};
@@ -20,7 +22,7 @@ use ipdl_syntax::{Entry, MessageDecl, NameAt, Program, ProtocolDecl};
 use name_table::Names;
 use std::alloc::{AllocError, Global};
 
-/// Adds a finding at each name of the subject that does this against a rule.
+/// Adds a finding at each name of the subject that breaks this rule.
 fn add_breaches(
     known: &ManagementGraph<'_, '_>,
     subject: &Subject<'_>,
@@ -45,7 +47,8 @@ fn add_breaches(
     Ok(())
 }
 
-/// Adds a finding at each of the subject's messages that has the name of a protocol which the subject does not manage.
+/// Adds a finding at each message of the subject with the name of a protocol that the subject does
+/// not manage.
 fn add_unmanaged(
     known: &ManagementGraph<'_, '_>,
     subject: &Subject<'_>,
@@ -69,7 +72,7 @@ fn add_unmanaged(
     Ok(())
 }
 
-/// Adds a finding at the subject's name where it has managers and no destructor.
+/// Adds a finding at the subject's name if it has managers and no destructor.
 fn add_undestroyed(subject: &Subject<'_>, found: &mut Vec<Finding>) -> Result<(), AllocError>
     requires { HasNames subject.now.protocol.now.messages subject.now.messages }
     ensures { OnOk result (Adds Rule.MISSING_DESTRUCTOR (UndestroyedIn subject.now.protocol.now)
@@ -84,7 +87,7 @@ fn add_undestroyed(subject: &Subject<'_>, found: &mut Vec<Finding>) -> Result<()
     Ok(())
 }
 
-/// Adds a finding at the subject's name where managers lead from it to another protocol and back.
+/// Adds a finding at the subject's name if managers lead from it to another protocol and back.
 fn add_cycle(
     alloc: Global,
     known: &ManagementGraph<'_, '_>,
@@ -105,7 +108,7 @@ fn add_cycle(
     Ok(())
 }
 
-/// These names with their places.
+/// Returns these names with their places.
 fn places_of_names(alloc: Global, names: &[NameAt]) -> Result<Vec<NamePlace<'_>>, AllocError>
     ensures { IfOk result (λ places. map (λ n. (n.0.now, n.1)) places.items ≡ names_at names.now) }
 {
@@ -116,7 +119,7 @@ fn places_of_names(alloc: Global, names: &[NameAt]) -> Result<Vec<NamePlace<'_>>
     Ok(places)
 }
 
-/// The names of these messages with their places.
+/// Returns the names of these messages with their places.
 fn places_of_messages(
     alloc: Global,
     messages: &[MessageDecl],
@@ -130,7 +133,7 @@ fn places_of_messages(
     Ok(places)
 }
 
-/// Adds a finding at each of these names that has the text of an earlier one.
+/// Adds a finding at each of these names that repeats an earlier one.
 fn add_repeated_names(
     alloc: Global,
     names: &[NameAt],
@@ -154,7 +157,8 @@ fn add_repeated_messages(
     add_repeated(alloc, Rule::REPEATED_NAME, places.as_slice(), found)
 }
 
-/// Adds a finding at each manager, managed protocol and message of a protocol that has the name of an earlier one.
+/// Adds a finding at each manager, managed protocol and message that has the name of an earlier one
+/// of its protocol.
 fn add_repeats(
     alloc: Global,
     protocol: &ProtocolDecl,
@@ -224,7 +228,7 @@ fn add_of_rest(
     add_repeats(alloc, subject.protocol, found)
 }
 
-/// Adds the findings of a protocol, which is that of a file.
+/// Adds the findings of a protocol. It is the protocol of the file of this number.
 fn add_of_protocol(
     alloc: Global,
     known: &ManagementGraph<'_, '_>,
@@ -241,7 +245,7 @@ fn add_of_protocol(
     add_of_rest(alloc, known, &subject, found)
 }
 
-/// Adds the findings of the protocol of a file, where it has one.
+/// Adds the findings of the protocol of a file, if it has one.
 fn add_of_file(
     alloc: Global,
     known: &ManagementGraph<'_, '_>,
@@ -276,8 +280,8 @@ fn add_of_files(
 }
 
 /// Adds the findings of the rules B8, B9, B15 and B17 to B21 that a program breaks
-/// (docs/protocols.md), in some order. The names are those of the program. The only error is want of
-/// memory.
+/// (docs/protocols.md), in some order. `names` is the table of the program's names. Fails only if
+/// memory runs out.
 pub fn add_of_managers(
     alloc: Global,
     program: &Program,

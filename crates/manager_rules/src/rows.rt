@@ -1,3 +1,5 @@
+//! For each file, the protocols that its protocol names.
+
 ghost use Rattle.std.specs.Prelude.{◌≡◌, ◌≢◌, ◌↔◌, ◌≤◌, ℕ, length, slice_get, IfOk, IfSome, IfNone, IsTrue, nat_eq};
 ghost use Rattle.std.specs.HashSet.{IsFromIterResult};
 ghost use Rattle.std.specs.List.{Any, Contains};
@@ -12,7 +14,7 @@ use name_table::{DeclId, Found, Names};
 use std::alloc::{AllocError, Global};
 use std::collections::HashSet;
 
-/// The files whose protocols a file's protocol names.
+/// The files of the protocols that a file's protocol names.
 #[derive(Drop)]
 pub struct ManagerRow {
     /// Their numbers, in text order.
@@ -21,14 +23,14 @@ pub struct ManagerRow {
     pub set: HashSet<u32>,
 }
 
-/// Whether a name finds no protocol in a file.
+/// Returns whether a name finds no protocol in a file.
 pub fn finds_none(names: &Names<'_>, file: u32, name: &Name) -> bool
     ensures { IsTrue result ↔ FindsNoProtocol names.now file name.now }
 {
     matches!(names.find_protocol(file, name), Found::None)
 }
 
-/// The file of a protocol.
+/// Returns the file of a protocol, or `None` for any other declaration.
 fn file_of(id: DeclId) -> Option<u32>
     ensures some { IfSome result (λ file. id ≡ DeclId.Protocol file) }
     ensures none { IfNone result ((file : ℕ) → id ≢ DeclId.Protocol file) }
@@ -39,7 +41,8 @@ fn file_of(id: DeclId) -> Option<u32>
     }
 }
 
-/// The file of the protocol that a name finds in a file, where it finds exactly one.
+/// Returns the file of the protocol that a name finds in a file, or `None` if the name does not
+/// find exactly one.
 pub fn find_one(names: &Names<'_>, file: u32, name: &Name) -> Option<u32>
     ensures some { IfSome result (FindsOneProtocol names.now file name.now) }
     ensures none { IfNone result ((other : ℕ) → ¬ FindsOneProtocol names.now file name.now other) }
@@ -51,7 +54,8 @@ pub fn find_one(names: &Names<'_>, file: u32, name: &Name) -> Option<u32>
     }
 }
 
-/// The files of the protocols that these names find in a file, each where it finds exactly one.
+/// Returns the files of the protocols that these names find in a file. A name that does not find
+/// exactly one is left out.
 fn files_of(
     alloc: Global,
     names: &Names<'_>,
@@ -69,14 +73,14 @@ fn files_of(
     Ok(files)
 }
 
-/// The set of these numbers.
+/// Returns the set of these numbers.
 fn set_of(alloc: Global, files: &[u32]) -> Result<HashSet<u32>, AllocError>
     ensures { IfOk result (IsFromIterResult nat_eq files.now) }
 {
     files.iter().copied().collect(alloc)
 }
 
-/// The row of these names in a file.
+/// Returns the row of these names in a file.
 fn row_of(
     alloc: Global,
     names: &Names<'_>,
@@ -90,7 +94,7 @@ fn row_of(
     Ok(ManagerRow { files, set })
 }
 
-/// For each file of a program, the row of the names that its protocol has on this side.
+/// Returns for each file of a program the row of the names that its protocol has in this relation.
 pub fn rows(
     alloc: Global,
     program: &[Entry],
@@ -108,7 +112,7 @@ pub fn rows(
     Ok(rows)
 }
 
-/// The row of a file, where there is one.
+/// Returns the row of a file, or `None`.
 pub fn row_at(rows: &[ManagerRow], file: u32) -> Option<&ManagerRow>
     ensures { option_copied result ≡ slice_get rows.now file }
 {

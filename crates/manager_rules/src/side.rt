@@ -1,20 +1,22 @@
+//! The two relations in which a protocol names others.
+
 ghost use Rattle.std.specs.Prelude.{◌≡◌};
 
 use ipdl_syntax::{Entry, NameAt, ProtocolDecl};
 
-/// Which of the names that a protocol has for other protocols.
+/// A relation in which a protocol names other protocols.
 #[derive(Clone, Copy)]
 pub enum Relation {
-    /// Those of its managers.
+    /// The protocol names its managers.
     Managers,
-    /// Those of the protocols that it manages.
+    /// The protocol names the protocols that it manages.
     Managed,
 }
 
 impl Relation {
     ghost use Rattle.manager_rules.specs.Sides.{names_on, names_in, other_side};
 
-    /// The other names.
+    /// Returns the other relation.
     pub fn other(self) -> Relation
         ensures { result ≡ other_side self }
     {
@@ -24,7 +26,7 @@ impl Relation {
         }
     }
 
-    /// These names of a protocol.
+    /// Returns the names that a protocol has in this relation.
     pub fn names_of(self, protocol: &ProtocolDecl) -> &[NameAt]
         ensures { result.now ≡ names_on self protocol.now }
     {
@@ -34,7 +36,8 @@ impl Relation {
         }
     }
 
-    /// These names of a file's protocol, where it has one.
+    /// Returns the names that a file's protocol has in this relation, or no names if the file has
+    /// no protocol.
     pub fn names_in(self, entry: &Entry) -> &[NameAt]
         ensures { result.now ≡ names_in self entry.now }
     {

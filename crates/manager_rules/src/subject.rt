@@ -1,3 +1,5 @@
+//! A protocol whose rules are tested, with the names of its messages.
+
 ghost use Rattle.std.specs.Prelude.{◌≡◌, ◌≢◌, ◌↔◌, [], IfOk, IsTrue, codes};
 ghost use Rattle.manager_rules.specs.Broken.{HasMessage};
 ghost use Rattle.manager_rules.specs.Subjects.{HasNames};
@@ -11,12 +13,13 @@ use std::collections::HashSet;
 pub struct Subject<'a> {
     /// The number of its file.
     pub file: u32,
+    /// The protocol itself.
     pub protocol: &'a ProtocolDecl,
     /// The names of its messages.
     pub messages: HashSet<&'a [u8]>,
 }
 
-/// The names of these messages.
+/// Returns the names of these messages.
 fn message_names(alloc: Global, messages: &[MessageDecl]) -> Result<HashSet<&[u8]>, AllocError>
     ensures { IfOk result (HasNames messages.now) }
 {
@@ -32,7 +35,7 @@ impl<'a> Subject<'a> {
     ghost use Rattle.ipdl_syntax.specs.declared.program.Entry.{Entry};
     ghost use Rattle.manager_rules.specs.Subjects.{IsSubject};
 
-    /// The protocol of a file.
+    /// Takes a protocol, which is that of this file, as a subject.
     pub fn of(
         alloc: Global,
         file: u32,
@@ -50,7 +53,7 @@ impl<'a> Subject<'a> {
         })
     }
 
-    /// Whether it has a message of this name.
+    /// Returns whether the protocol has a message of this name.
     pub fn has_message(&self, name: &[u8]) -> bool
         requires { HasNames self.now.protocol.now.messages self.now.messages }
         ensures { IsTrue result ↔ HasMessage self.now.protocol.now name.now }
@@ -58,7 +61,7 @@ impl<'a> Subject<'a> {
         self.messages.contains(&name)
     }
 
-    /// Whether it has managers and no destructor.
+    /// Returns whether the protocol has managers and no destructor.
     pub fn lacks_destructor(&self) -> bool
         requires { HasNames self.now.protocol.now.messages self.now.messages }
         ensures { IsTrue result ↔ ((self.now.protocol.now.managers ≢ []) × ¬ HasMessage self.now.protocol.now (codes "__delete__")) }

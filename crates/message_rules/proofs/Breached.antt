@@ -1,4 +1,4 @@
--- All breaches are gone through.
+-- A list of all breaches.
 use Rattle.std.proofs.Common.{List, [], ◌∷◌, refl, lit<}
 use Rattle.std.specs.List.{Any}
 use Rattle.message_rules.specs.declared.message.MessageBreach.{MessageBreach}
@@ -8,7 +8,7 @@ use Rattle.message_rules.specs.declared.message.MessageBreach.TheVariants.{TooMa
 abbrev pub breaches : List MessageBreach
 breaches = TooMany ∷ PlainSyncToChild ∷ AsyncInsideSync ∷ InsideCpowToChild ∷ Stronger ∷ BadCompress ∷ BadMaker ∷ BadLazy ∷ []
 
--- what holds of a breach holds of one of them
+-- a property of a breach holds of one of the list
 pub any_breach : (P : MessageBreach → Type 0) (b : MessageBreach) → P b → Any P breaches
 any_breach P TooMany p = (0, TooMany, lit< tt, refl, p)
 any_breach P PlainSyncToChild p = (1, PlainSyncToChild, lit< tt, refl, p)

@@ -19,7 +19,7 @@ HasNames-none set none = record {
   exact = λ q. ((λ h. absurd (true≢false (sym h ∙ ap (list_any (same_name q)) none))), (λ h. let no : ⊥ = omega (arith, h.2) in absurd no));
 }
 
--- one name more
+-- one more name
 pub HasNames-more : {S : Type 0} (old new : HashSet (Bor (List ℕ)) S) (names : List NameAt) (i : ℕ) (d : NameAt) (key : Bor (List ℕ)) → i < length names → key.now ≡ (get_or names i d).name
     → ((q : Bor (List ℕ)) → contains same_name new q ≡ cond (same_name key q) true (contains same_name old q)) → HasNames old (take i names) → HasNames new (take (i + 1) names)
 HasNames-more old new names i d key lt is put has =
@@ -39,7 +39,7 @@ HasNames-more old new names i d key lt is put has =
           );
     })
 
--- what the set tells of a name is what the test of all names tells
+-- the set decides for a name the same as the test of all names
 pub HasNames-tells : {S : Type 0} (set : HashSet (Bor (List ℕ)) S) (names : List NameAt) (q : Bor (List ℕ)) (name : List ℕ) → q.now ≡ name → HasNames set names → (b : Bool) → contains same_name set q ≡ b → list_any (λ (n : NameAt). bytes_eq n.name name) names ≡ b
 HasNames-tells set names q name is has true told =
     let any = (has.exact q).0 told in

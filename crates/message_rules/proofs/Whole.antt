@@ -17,7 +17,7 @@ use Rattle.message_rules.specs.Breaches.{rule_of, Breaks}
 use Rattle.message_rules.specs.Broken.{SomeMessage, IsRepeatedParameter, returns_of, BrokenAt}
 use Rattle.message_rules.specs.Gathered.{IsFoundIn, IsRepeatedIn, param_names}
 
--- the names of the parameters, and then of the returns where there are some
+-- the names of the parameters, and then of the returns, if there are any
 pub all_names : (params : List Param) (returns : Option (List Param)) (held : List Param) (names : List (List ℕ × Place)) → returns_of returns ≡ held → names ≡ param_names params ++ param_names held → names ≡ param_names (params ++ returns_of returns)
 all_names params returns held names same e = rw (same, map-append {B = List ℕ × Place} (λ (p : Param). (p.name, p.place)) params held) e
 
@@ -28,7 +28,7 @@ some_out P (Some x) h = (x, refl, h)
 pub some_in : {X : Type 0} (P : X → Type 0) (o : Option X) (x : X) → o ≡ Some x → P x → IsSomeAnd o P
 some_in {X} P o x e h = let Q : Option X → Type 0 = λ o. IsSomeAnd o P in subst Q (sym e) h
 
--- what a protocol's findings are, of those of its file
+-- the findings of the protocol of an entry
 abbrev pub IsFoundAt : Entry → Finding → Type 0
 IsFoundAt e f = IsSomeAnd e.unit.protocol (λ p. IsFoundIn p f ⊎ IsRepeatedIn p.messages f)
 
@@ -73,7 +73,7 @@ cases program f h = elim h [
   ]
 ]
 
--- what was gathered is broken
+-- what was gathered is a broken rule
 pub gathered_is_broken : (program : List Entry) (f : Finding) → Any (λ e. IsFoundAt e f) program → BrokenAt program f
 gathered_is_broken program f (k, e, lt, at, h) =
     let held = some_out (λ (p : ProtocolDecl). IsFoundIn p f ⊎ IsRepeatedIn p.messages f) e.unit.protocol h in
@@ -90,7 +90,7 @@ gathered_is_broken program f (k, e, lt, at, h) =
           )
     ]
 
--- what is broken was gathered
+-- each broken rule was gathered
 pub broken_is_gathered : (program : List Entry) (f : Finding) → BrokenAt program f → Any (λ e. IsFoundAt e f) program
 broken_is_gathered program f h = elim (cases program f h) [
   | inl x ↦ (

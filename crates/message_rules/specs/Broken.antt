@@ -1,4 +1,4 @@
--- The rules on messages, where a program breaks them.
+-- The rules on messages, and the places at which a program breaks them.
 use Rattle.std.specs.Prelude.{◌≡◌, ℕ, ◌⊎◌, List, [], ◌++◌, map, Option, Some, None, IsSomeAnd}
 use Rattle.std.specs.List.{Any}
 use Rattle.ipdl_base.specs.declared.finding.Finding.{Finding}
@@ -12,17 +12,18 @@ use Rattle.findings.specs.Gains.{AtSome}
 use Rattle.findings.specs.Repeats.{IsRepeatedAt}
 use Rattle.message_rules.specs.Messages.{IsTooMany, IsPlainSyncToChild, IsAsyncInsideSync, IsInsideCpowToChild, IsStronger, IsBadCompress, IsBadLazy, IsBadMaker}
 
--- this holds of a protocol of the program, of the index of one of its messages and of the message, whose name stands at the place
+-- this holds of a protocol of the program, and of the index of one of its messages and this message, whose name is at
+-- the place
 abbrev pub SomeMessage : (ProtocolDecl → ℕ → MessageDecl → Type 0) → List Entry → Place → Type 0
 SomeMessage Holds program place =
     Any (λ e. IsSomeAnd e.unit.protocol (λ p. AtSome (λ index m. Holds p index m × (m.place ≡ place)) p.messages)) program
 
--- the returns of a message, where it has some
+-- the returns of a message, or no returns
 abbrev pub returns_of : Option (List Param) → List Param
 returns_of None = []
 returns_of (Some params) = params
 
--- B22: the parameter or return whose name stands at this place has the name of an earlier one of its message
+-- B22: the parameter or return whose name is at this place has the name of an earlier one of its message
 abbrev pub IsRepeatedParameter : List Entry → Place → Type 0
 IsRepeatedParameter program place =
     Any (λ e. IsSomeAnd e.unit.protocol (λ p. Any (λ m. IsRepeatedAt (map (λ q. (q.name, q.place)) (m.params ++ returns_of m.returns)) place) p.messages)) program

@@ -17,7 +17,7 @@ use Rattle.message_rules.specs.Broken.{returns_of}
 abbrev pub IsFoundIn : ProtocolDecl → Finding → Type 0
 IsFoundIn p f = AtSome (IsFoundOf p f) p.messages
 
--- names with their places, as the code holds them and as definitions see them
+-- names with their places, as the code stores them, seen as definitions see them
 abbrev pub plain_names : List (Bor (List ℕ) × Place) → List (List ℕ × Place)
 plain_names names = map (λ n. (n.0.now, n.1)) names
 

@@ -9,11 +9,11 @@ use Rattle.ipdl_syntax.specs.declared.tree.ProtocolDecl.{ProtocolDecl}
 use Rattle.name_table.specs.Kinds.{Converts, IsKindOf, compress_of_message, is_lazy_message, level_of_message, strength_of_message, strength_of_protocol}
 use Rattle.name_table.specs.declared.kinds.MessageKind.TheVariants as kind
 
--- the index of a message leaves no number for it
+-- the index of a message is beyond the numbers that messages have
 abbrev pub IsTooMany : ℕ → Type 0
 IsTooMany index = 32768 ≤ index
 
--- the child may receive it: it stands under `child` or under `both`
+-- the child may receive it: its section is `child` or `both`
 abbrev pub IsToChild : MessageDecl → Type 0
 IsToChild m = m.direction ≢ direction.Parent
 
@@ -37,7 +37,7 @@ pub record IsInsideCpowToChild (m : MessageDecl) : Type 0 where
 abbrev pub IsStronger : ProtocolDecl → MessageDecl → Type 0
 IsStronger p m = ¬ Converts (strength_of_message m) (strength_of_protocol p)
 
--- an async message that is neither constructor nor destructor
+-- an async message that is neither a constructor nor a destructor
 pub record IsPlainAsync (p : ProtocolDecl) (m : MessageDecl) : Type 0 where
   pub semantics : m.semantics ≡ Async
   pub kind : IsKindOf p m kind.Normal

@@ -1,3 +1,5 @@
+//! The kind of a message, by a set of the names of managed protocols.
+
 ghost use Rattle.std.specs.Prelude.{IfOk};
 ghost use Rattle.ipdl_syntax.specs.declared.tree.ProtocolDecl.{ProtocolDecl};
 ghost use Rattle.name_table.specs.Kinds.{IsKindOf};
@@ -8,7 +10,7 @@ use name_table::MessageKind;
 use std::alloc::{AllocError, Global};
 use std::collections::HashSet;
 
-/// The names of what a protocol manages.
+/// Returns the names of the protocols that a protocol manages.
 pub fn managed_names(alloc: Global, manages: &[NameAt]) -> Result<HashSet<&[u8]>, AllocError>
     ensures { IfOk result (λ set. HasNames set manages.now) }
 {
@@ -19,7 +21,7 @@ pub fn managed_names(alloc: Global, manages: &[NameAt]) -> Result<HashSet<&[u8]>
     Ok(names)
 }
 
-/// What a message does in a protocol that manages these.
+/// Returns the kind of a message in a protocol that manages these.
 pub fn kind_among(managed: &HashSet<&[u8]>, message: &MessageDecl) -> MessageKind
     ensures { (p : ProtocolDecl) → HasNames managed.now p.manages → IsKindOf p message.now result }
 {

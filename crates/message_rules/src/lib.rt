@@ -1,5 +1,5 @@
-//! The rules on messages: their number, levels and semantics, compression, constructors and destructors, parameters
-//! (docs/protocols.md).
+//! The rules on messages: their number, levels and semantics, compression, constructors and
+//! destructors, parameters (docs/protocols.md).
 #![tactic(auto)]
 
 mod kinds;

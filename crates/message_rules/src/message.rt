@@ -1,3 +1,5 @@
+//! The rules on a single message.
+
 ghost use Rattle.std.specs.Prelude.{◌≡◌, ◌↔◌, OnOk, IsTrue};
 ghost use Rattle.std.specs.List.{Any};
 ghost use Rattle.findings.specs.Gains.{Gains};
@@ -13,20 +15,29 @@ use std::alloc::AllocError;
 /// The most messages that a protocol may have.
 const MOST: usize = 32768;
 
-/// What a message does against a rule.
+/// A rule that a message can break, by what the message does.
 #[derive(Clone, Copy)]
 pub enum MessageBreach {
+    /// The protocol has at least 32,768 messages before this one.
     TooMany,
+    /// The message is sync, of level `not`, and may be sent by the parent.
     PlainSyncToChild,
+    /// The message is of level `inside_sync` and async.
     AsyncInsideSync,
+    /// The message is of level `inside_cpow` and may be sent by the parent.
     InsideCpowToChild,
+    /// The message does not convert to its protocol.
     Stronger,
+    /// The message is compressed and not plain async.
     BadCompress,
+    /// The message is a destructor that is sync or has returns, or an async constructor that has
+    /// returns.
     BadMaker,
+    /// The message is lazy and not plain async.
     BadLazy,
 }
 
-/// All of them.
+/// All breaches.
 const BREACHES: [MessageBreach; 8] = [
     MessageBreach::TooMany,
     MessageBreach::PlainSyncToChild,
@@ -39,7 +50,7 @@ const BREACHES: [MessageBreach; 8] = [
 ];
 
 impl MessageBreach {
-    /// The rule that is broken.
+    /// Returns the rule that is broken.
     fn rule(self) -> Rule
         ensures { result ≡ rule_of self }
     {
@@ -56,7 +67,7 @@ impl MessageBreach {
     }
 }
 
-/// Whether the child may receive the message.
+/// Returns whether the child may receive the message.
 fn is_to_child(message: &MessageDecl) -> bool
     ensures { IsTrue result ↔ IsToChild message.now }
 {
@@ -66,7 +77,7 @@ fn is_to_child(message: &MessageDecl) -> bool
     }
 }
 
-/// Whether the message is sync, of level `not`, and may be sent by the parent.
+/// Returns whether the message is sync, of level `not`, and may be sent by the parent.
 fn is_plain_sync_to_child(message: &MessageDecl) -> bool
     ensures { IsTrue result ↔ IsPlainSyncToChild message.now }
 {
@@ -75,28 +86,29 @@ fn is_plain_sync_to_child(message: &MessageDecl) -> bool
         && is_to_child(message)
 }
 
-/// Whether the message is of level `inside_sync` and async.
+/// Returns whether the message is of level `inside_sync` and async.
 fn is_async_inside_sync(message: &MessageDecl) -> bool
     ensures { IsTrue result ↔ IsAsyncInsideSync message.now }
 {
     message_level(message) == Level::InsideSync && message.semantics == Semantics::Async
 }
 
-/// Whether the message is of level `inside_cpow` and may be sent by the parent.
+/// Returns whether the message is of level `inside_cpow` and may be sent by the parent.
 fn is_inside_cpow_to_child(message: &MessageDecl) -> bool
     ensures { IsTrue result ↔ IsInsideCpowToChild message.now }
 {
     message_level(message) == Level::InsideCpow && is_to_child(message)
 }
 
-/// Whether the message does not convert to its protocol.
+/// Returns whether the message does not convert to its protocol.
 fn is_stronger(protocol: &ProtocolDecl, message: &MessageDecl) -> bool
     ensures { IsTrue result ↔ IsStronger protocol.now message.now }
 {
     !Strength::of_message(message).converts_to(Strength::of_protocol(protocol))
 }
 
-/// Whether the message, which is of this kind, is async and neither constructor nor destructor.
+/// Returns whether the message, which is of this kind, is async and neither a constructor nor a
+/// destructor.
 fn is_plain_async(protocol: &ProtocolDecl, message: &MessageDecl, kind: MessageKind) -> bool
     requires { IsKindOf protocol.now message.now kind }
     ensures { IsTrue result ↔ IsPlainAsync protocol.now message.now }
@@ -104,7 +116,7 @@ fn is_plain_async(protocol: &ProtocolDecl, message: &MessageDecl, kind: MessageK
     message.semantics == Semantics::Async && kind == MessageKind::Normal
 }
 
-/// Whether the message, which is of this kind, is compressed and not plain async.
+/// Returns whether the message, which is of this kind, is compressed and not plain async.
 fn is_bad_compress(protocol: &ProtocolDecl, message: &MessageDecl, kind: MessageKind) -> bool
     requires { IsKindOf protocol.now message.now kind }
     ensures { IsTrue result ↔ IsBadCompress protocol.now message.now }
@@ -112,7 +124,7 @@ fn is_bad_compress(protocol: &ProtocolDecl, message: &MessageDecl, kind: Message
     compress_of(message) != Compress::Plain && !is_plain_async(protocol, message, kind)
 }
 
-/// Whether the message, which is of this kind, is lazy and not plain async.
+/// Returns whether the message, which is of this kind, is lazy and not plain async.
 fn is_bad_lazy(protocol: &ProtocolDecl, message: &MessageDecl, kind: MessageKind) -> bool
     requires { IsKindOf protocol.now message.now kind }
     ensures { IsTrue result ↔ IsBadLazy protocol.now message.now }
@@ -120,8 +132,8 @@ fn is_bad_lazy(protocol: &ProtocolDecl, message: &MessageDecl, kind: MessageKind
     is_lazy(message) && !is_plain_async(protocol, message, kind)
 }
 
-/// Whether the message, which is of this kind, is a destructor that is sync or has returns, or an
-/// async constructor that has returns.
+/// Returns whether the message, which is of this kind, is a destructor that is sync or has returns,
+/// or an async constructor that has returns.
 fn is_bad_maker(protocol: &ProtocolDecl, message: &MessageDecl, kind: MessageKind) -> bool
     requires { IsKindOf protocol.now message.now kind }
     ensures { IsTrue result ↔ IsBadMaker protocol.now message.now }
@@ -137,7 +149,7 @@ fn is_bad_maker(protocol: &ProtocolDecl, message: &MessageDecl, kind: MessageKin
     }
 }
 
-/// Whether the message at an index of its protocol, which is of this kind, breaks this rule.
+/// Returns whether the message at an index of its protocol, which is of this kind, breaks this rule.
 fn breaks(
     breach: MessageBreach,
     protocol: &ProtocolDecl,
@@ -160,7 +172,7 @@ fn breaks(
     }
 }
 
-/// Adds the finding of this breach, where the message breaks the rule.
+/// Adds a finding if the message breaks this rule.
 fn add_breach(
     breach: MessageBreach,
     protocol: &ProtocolDecl,

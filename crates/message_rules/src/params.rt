@@ -1,3 +1,5 @@
+//! The rule on the names of parameters and returns.
+
 ghost use Rattle.std.specs.Prelude.{◌≡◌, ◌++◌, OnOk};
 ghost use Rattle.findings.specs.Adds.{Adds};
 ghost use Rattle.findings.specs.Repeats.{IsRepeatedAt};
@@ -9,7 +11,7 @@ use ipdl_base::{Finding, Rule};
 use ipdl_syntax::{MessageDecl, Param};
 use std::alloc::{AllocError, Global};
 
-/// Puts the names of these last.
+/// Appends the names of these parameters.
 fn add_names<'m>(params: &'m [Param], names: &mut Vec<NamePlace<'m>>) -> Result<(), AllocError>
     ensures { OnOk result (plain_names names.new.items ≡ plain_names names.old.items ++ param_names params.now) }
 {
@@ -20,7 +22,7 @@ fn add_names<'m>(params: &'m [Param], names: &mut Vec<NamePlace<'m>>) -> Result<
 }
 
 /// Adds a finding at each parameter or return that has the name of an earlier one of the message.
-/// What the list of names held before is let go.
+/// Overwrites `names`, which is used as a buffer.
 pub fn add_repeated_of<'m>(
     alloc: Global,
     message: &'m MessageDecl,

@@ -1,3 +1,5 @@
+//! Adds the findings of the rules on messages.
+
 ghost use Rattle.std.specs.Prelude.{◌≡◌, ◌⊎◌, ◌++◌, map, OnOk, IsSomeAnd};
 ghost use Rattle.std.specs.List.{Any};
 ghost use Rattle.findings.specs.Gains.{Gains, AtSome};
@@ -13,7 +15,7 @@ use ipdl_base::Finding;
 use ipdl_syntax::{Entry, MessageDecl, Program, ProtocolDecl};
 use std::alloc::{AllocError, Global};
 
-/// Adds the findings of the single messages of a protocol.
+/// Adds the findings of each message of a protocol by itself.
 fn add_in(
     alloc: Global,
     protocol: &ProtocolDecl,
@@ -44,7 +46,7 @@ fn add_repeated_in(
     Ok(())
 }
 
-/// Adds the findings of a file's protocol, where it has one.
+/// Adds the findings of a file's protocol, if it has one.
 fn add_of_entry(alloc: Global, entry: &Entry, found: &mut Vec<Finding>) -> Result<(), AllocError>
     ensures { OnOk result (Gains (λ f. IsSomeAnd entry.now.unit.protocol (λ p. IsFoundIn p f ⊎ IsRepeatedIn p.messages f)) found.old.items found.new.items) }
 {
@@ -56,7 +58,7 @@ fn add_of_entry(alloc: Global, entry: &Entry, found: &mut Vec<Finding>) -> Resul
 }
 
 /// Adds the findings of the rules B10 to B14, B16 and B22 to B24 that a program breaks
-/// (docs/protocols.md), in some order. The only error is want of memory.
+/// (docs/protocols.md), in some order. Fails only if memory runs out.
 pub fn add_of_messages(
     alloc: Global,
     program: &Program,

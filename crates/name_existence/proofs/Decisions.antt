@@ -1,4 +1,5 @@
--- What is decided: which number is below, equality of options, and what is made of decided parts. What is decided is listed, where a list has all of which it holds.
+-- Decided properties: which number is below, equality of options, and what is made of decided parts. A decided
+-- property is listed if some list has all things with it.
 use Rattle.std.proofs.Common.{◌≡◌, ◌⊎◌, ℕ, ◌<◌, List, [], ◌∷◌, Contains, Any, Option, Some, None, refl, ap, subst, inl, inr, ⊎_elim, arith, IsSomeAnd}
 use Rattle.std.proofs.lemmas.Bool.{cases_lt}
 use Rattle.report_existence.proofs.Finite.{contains_none, contains_more, contains_cases, either_or_not, both_or_not, same_places, of_any, when}
@@ -40,7 +41,7 @@ pub contains_or_not : {X : Type 0} → ((a b : X) → (a ≡ b) ⊎ (a ≡ b →
 contains_or_not each [] x = inr (contains_none x)
 contains_or_not each (y ∷ xs) x = like_or_not (contains_more y xs x) (contains_cases y xs x) (either_or_not (each y x) (contains_or_not each xs x))
 
--- all elements have it, or one has it not
+-- all elements have the property, or one does not have it
 pub all_or_not : {X : Type 0} (P : X → Type 0) → ((x : X) → P x ⊎ (P x → ⊥)) → (xs : List X) → ((x : X) → Contains xs x → P x) ⊎ (((x : X) → Contains xs x → P x) → ⊥)
 all_or_not {X} P each xs =
     ⊎_elim
@@ -48,7 +49,7 @@ all_or_not {X} P each xs =
     (λ (every : (x : X) → Contains xs x → P x). inl every)
     (some_or_each (λ x. P x → ⊥) P (λ x. ⊎_elim (λ (h : P x). inr h) (λ (none : P x → ⊥). inl none) (each x)) xs)
 
--- those of a list of which something holds, where it holds of no other
+-- the elements of a list with a property that holds of nothing else
 pub of_list : {X : Type 0} (P : X → Type 0) → ((x : X) → P x ⊎ (P x → ⊥)) → (xs : List X) → ((x : X) → P x → Contains xs x) → IsListed P
 of_list {X} P each xs within =
     same_places (λ p. Any (λ x. (x ≡ p) × P x) xs) P
@@ -56,7 +57,7 @@ of_list {X} P each xs within =
     (λ p h. let c = within p h in (c.0, p, c.1, c.2, (refl, h)))
     (of_any xs (λ x p. (x ≡ p) × P x) (λ x. when (P x) (each x) x))
 
--- what is listed holds of some element, or of none
+-- a listed property holds of some element, or of no element
 pub some_or_none : {X : Type 0} (P : X → Type 0) → IsListed P → ((x : X) × P x) ⊎ ((x : X) → P x → ⊥)
 some_or_none P ([], exact) = inr (λ x h. contains_none x ((exact x).1 h))
 some_or_none P (x ∷ xs, exact) = inl (x, (exact x).0 (contains_more x xs x (inl refl)))

@@ -1,4 +1,4 @@
--- Which types are defined is decided.
+-- It is decided which types are defined.
 use Rattle.std.proofs.Common.{◌≡◌, ◌⊎◌, ◌∙◌, ℕ, List, Contains, Any, Option, Some, IsSomeAnd, slice_get, option_map, refl, sym, ap, subst, inl, inr, ⊎_elim}
 use Rattle.std.specs.Prelude.{option_and_then}
 use Rattle.std.proofs.lemmas.Option.{option_and_then_some}
@@ -24,12 +24,13 @@ use Rattle.name_existence.proofs.Decisions.{like_or_not, all_or_not, contains_or
 use Rattle.name_existence.proofs.Least.{closed_marks}
 use Rattle.name_existence.proofs.Names.{decls, decl_or_not, names_have_answers}
 
--- each struct or union that a base, or what its UniquePtr holds, finds alone is marked
+-- each struct or union that a base, or the inside of its UniquePtr, finds alone is marked
 abbrev Rests : List Entry → List DeclId → ℕ → Base → Type 0
 Rests program marks file (Named name argument) = (d : DeclId) → FindsOne program file name argument d → IsCompound d → Contains marks d
 Rests program marks file (Unique' at nullable inner after place) = Rests program marks file inner
 
--- from marked structs and unions a step leads to a struct all of whose fields rest on these, and to a union of which one component does
+-- from marked structs and unions a step leads to a struct if all of its fields depend on these alone, and to a union
+-- if one component does
 abbrev Step : List Entry → List DeclId → DeclId → Type 0
 Step program marks (decl.Struct file place) = IsSomeAnd (struct_of program file place) (λ s. (field : Param) → Contains s.fields field → Rests program marks file field.spec.base)
 Step program marks (decl.Union file place) = IsSomeAnd (union_of program file place) (λ u. Any (λ component. Rests program marks file component.base) u.components)
@@ -106,9 +107,9 @@ step_defined program marks sound (decl.Union file place) step =
     and_some (union_of program file place) (IsDefinedUnion program file) u.0 u.1 (c.1, (c.0, c.2, c.3), rests_defined program marks sound file c.1.base c.4)
 step_defined program marks sound _ step = absurd step
 
--- What is defined rests on closed marks
+-- What is defined, by closed marks
 
--- a struct or union that there is has a full name
+-- a struct or union that exists has a full name
 named : {X : Type 0} (inner : Entry → Option X) (full_of : X → List ℕ) (o : Option Entry) (x : X) → option_and_then inner o ≡ Some x → option_and_then (λ e. option_map full_of (inner e)) o ≡ Some (full_of x)
 named inner full_of o x e = option_and_then_some inner o x e (λ entry here there. ap (option_and_then (λ e. option_map full_of (inner e))) here ∙ ap (option_map full_of) there)
 

@@ -1,4 +1,4 @@
--- Which nodes are derived is decided.
+-- It is decided which nodes are derived.
 use Rattle.std.proofs.Common.{◌≡◌, ◌⊎◌, ℕ, zero, suc, ◌<◌, List, [], ◌∷◌, Contains, Any, Some, length, slice_get, refl, sym, subst, inl, inr, ⊎_elim, arith, IsSomeAnd, ◌≤◌}
 use Rattle.std.proofs.lemmas.Bool.{cases_lt, cases_eq}
 use Rattle.std.proofs.lemmas.Option.{slice_get_within}
@@ -22,7 +22,7 @@ is_below zero k less = absurd (omega arith)
 is_below (suc n) k less =
     ⊎_elim (λ (below : k < n). contains_more n (numbers_below n) k (inr (is_below n k below))) (λ (above : n ≤ k). contains_more n (numbers_below n) k (inl (omega (arith, less, above)))) (cases_lt k n)
 
--- what a need asks of parts is met by marks
+-- the need of a node is met by marks
 abbrev IsMet : List ℕ → Need → List ℕ → Type 0
 IsMet marks All parts = (part : ℕ) → Contains parts part → Contains marks part
 IsMet marks One parts = Any (λ part. Contains marks part) parts
@@ -44,7 +44,7 @@ marked nodes marks closed k s =
     let node = some_and (slice_get nodes k) (λ node. IsMet marks node.need node.parts.items) s in
     closed k (is_below (length nodes) k (slice_get_within nodes k node.0 node.1)) s
 
--- and from them a step leads to all that is derived
+-- from closed marks a step leads to all that is derived
 derived_step : (nodes : List Node) (marks : List ℕ) → ((k : ℕ) → Contains (numbers_below (length nodes)) k → Step nodes marks k → Contains marks k) → {k : ℕ} → IsDerived nodes k → Step nodes marks k
 derived_step nodes marks closed (all {k} node at is parts) =
     and_some (slice_get nodes k) (λ node. IsMet marks node.need node.parts.items) node at

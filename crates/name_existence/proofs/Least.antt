@@ -2,7 +2,7 @@
 use Rattle.std.proofs.Common.{◌≡◌, ◌⊎◌, ℕ, zero, suc, ◌≤◌, List, [], ◌∷◌, Contains, length, refl, sym, ap, subst, inl, inr, ⊎_elim, arith}
 use Rattle.report_existence.proofs.Finite.{contains_none, contains_more, contains_cases}
 
--- one element of which something holds is taken out of a list: each other one is in the rest
+-- an element with a property is taken out of a list, and each other one is in the rest
 record IsTaken {X : Type 0} (Holds : X → Type 0) (xs : List X) (x : X) (rest : List X) : Type 0 where
   pub holds : Holds x
   pub shorter : length xs ≡ suc (length rest)
@@ -26,7 +26,7 @@ taken_later Holds z xs (x, rest, t) = (
   },
 )
 
--- one is taken, or it holds of none
+-- one is taken, or no element has the property
 taken_or_none : {X : Type 0} (Holds : X → Type 0) → ((x : X) → Holds x ⊎ (Holds x → ⊥)) → (xs : List X) → Taken Holds xs ⊎ ((y : X) → Contains xs y → Holds y → ⊥)
 taken_or_none Holds each [] = inr (λ y c. absurd (contains_none y c))
 taken_or_none {X} Holds each (z ∷ xs) =
@@ -62,7 +62,7 @@ module _ {X : Type 0} (all : List X) (P : X → Type 0) (Step : List X → X →
         (are.whole y c);
   }
 
-  -- where a step leads to none of those that are left, the marks are closed
+  -- if no step leads to one that is left, the marks are closed
   last : (marks left : List X) → AreMarks all P marks left → ((y : X) → Contains left y → Step marks y → ⊥) → AreClosed all P Step marks
   last marks left are none = record {
     sound = are.sound;
@@ -82,12 +82,12 @@ module _ {X : Type 0} (all : List X) (P : X → Type 0) (Step : List X → X →
       (λ (none : (y : X) → Contains left y → Step marks y → ⊥). (marks, last marks left are none))
       (taken_or_none (Step marks) (decided marks) left)
 
-  -- Marking ends, where steps are decided and lead from what is in the set to what is in it.
+  -- Marking ends, if steps are decided and lead from elements of the set to elements of the set.
   pub closed_marks : ((marks : List X) (x : X) → Step marks x ⊎ (Step marks x → ⊥)) → ((marks : List X) → ((y : X) → Contains marks y → P y) → (x : X) → Step marks x → P x) → (end : List X) × AreClosed all P Step end
   closed_marks decided sound =
       rounds decided sound (length all) [] all (omega arith) (record { sound = λ x c. absurd (contains_none x c); whole = λ x c. inr c })
 
-  -- The set is decided, where besides from closed marks a step leads to all that is in it.
+  -- The set is decided, if from closed marks a step also leads to everything that is in the set.
   pub least_or_not : ((marks : List X) (x : X) → Step marks x ⊎ (Step marks x → ⊥)) → ((marks : List X) → ((y : X) → Contains marks y → P y) → (x : X) → Step marks x → P x)
       → ((marks : List X) → ((y : X) → Contains all y → Step marks y → Contains marks y) → (x : X) → P x → Step marks x)
       → (x : X) → P x ⊎ (P x → ⊥)

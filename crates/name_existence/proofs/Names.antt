@@ -1,4 +1,4 @@
--- Every name finds none, one, or two that differ.
+-- Every name finds nothing, one declaration, or two different ones.
 use Rattle.report_existence.proofs.Lists.{text_or_not, bool_or_not}
 use Rattle.std.proofs.lemmas.Bool.{cases_eq}
 use Rattle.std.proofs.Common.{◌≡◌, ◌≢◌, ◌⊎◌, ◌∙◌, ℕ, Bool, true, false, List, [], ◌∷◌, ◌++◌, Any, Contains, Option, Some, None, IsSomeAnd, map, refl, sym, ap, subst, inl, inr, ⊎_elim}
@@ -115,7 +115,7 @@ names_builtin_or_not program file full =
 before_or_not : (file place other there : ℕ) → IsBefore file place other there ⊎ (IsBefore file place other there → ⊥)
 before_or_not file place other there = either_or_not (below_or_not file other) (both_or_not (cases_eq file other) (below_or_not place there))
 
--- a using of this name that the file sees stands before a place
+-- a using of this name that the file sees is before a place
 abbrev IsEarlier : List Entry → ℕ → List ℕ → ℕ → ℕ → DeclId → Type 0
 IsEarlier program file full other place (Using before there) = Sees program file (Using before there) full × IsBefore before there other place
 IsEarlier program file full other place _ = ⊥

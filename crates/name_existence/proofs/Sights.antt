@@ -1,4 +1,4 @@
--- What a file sees is decided, and so it is listed.
+-- It is decided what a file sees, so this is listed.
 use Rattle.report_existence.proofs.Lists.{text_or_not}
 use Rattle.std.proofs.lemmas.Bool.{cases_eq}
 use Rattle.std.proofs.Common.{◌≡◌, ◌⊎◌, ℕ, ◌<◌, List, Contains, Any, Some, None, length, refl, sym, subst, inl, inr, slice_get}
@@ -26,7 +26,8 @@ includes_or_not program file other = some_and_or_not (slice_get program file) (�
 followed_or_not : (program : List Entry) (from file : ℕ) → IsFollowed program from file ⊎ (IsFollowed program from file → ⊥)
 followed_or_not program from file = either_or_not (cases_eq file from) (header_or_not program file)
 
--- from marked files a step leads to the file that all is reached from, and to what a marked file includes that is followed
+-- from marked files a step leads to the file at which the search began, and to the files that a marked and followed
+-- file includes
 abbrev Step : List Entry → ℕ → List ℕ → ℕ → Type 0
 Step program from marks file = (file < length program) × ((file ≡ from) ⊎ Any (λ before. IsFollowed program from before × Includes program before file) marks)
 

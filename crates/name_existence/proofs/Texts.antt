@@ -53,12 +53,12 @@ builtin_or_not a b = like_or_not (λ e. one_builtin a b (builtin_name b) (inr e)
 pub names_type_or_not : (type : Builtin) (text : List ℕ) → IsNameOfBuiltin type text ⊎ (IsNameOfBuiltin type text → ⊥)
 names_type_or_not type text = either_or_not (text_or_not (builtin_full_name type) text) (text_or_not (builtin_name type) text)
 
--- what is decided of each builtin type holds of one or of none
+-- a property that is decided for each builtin type holds of one, or of no type
 pub type_or_none : (P : Builtin → Type 0) → ((type : Builtin) → P type ⊎ (P type → ⊥)) → ((type : Builtin) × P type) ⊎ ((type : Builtin) × P type → ⊥)
 type_or_none P each =
     like_or_not (λ (i, type, below, at, h). (type, h)) (λ (type, h). let c = is_builtin type in (c.0, type, c.1, c.2, h)) (any_or_not P each builtins)
 
--- what is decided of `Endpoint` and of `ManagedEndpoint` holds of one of them or of neither
+-- a property that is decided for `Endpoint` and `ManagedEndpoint` holds of one of them, or of neither
 pub managed_or_none : (P : Bool → Type 0) → ((managed : Bool) → P managed ⊎ (P managed → ⊥)) → ((managed : Bool) × P managed) ⊎ ((managed : Bool) × P managed → ⊥)
 managed_or_none P each = like_or_not to from (either_or_not (each false) (each true))
   where
@@ -78,7 +78,7 @@ name_of_or_not text argument full =
     (both_or_not (text_or_not full (whole_name text argument)) (not_or (contains_or_not cases_eq text 60)))
     (three_or_not (none_or_not argument) (text_or_not (short_name full) text) (not_or (contains_or_not cases_eq full 60)))
 
--- what stands between a front with `<` and the last byte
+-- the text between a prefix with `<` and the last byte
 abbrev inner_of : List ℕ → List ℕ → List ℕ
 inner_of front whole = drop (length (front ++ 60 ∷ [])) (take (length whole - 1) whole)
 
@@ -91,7 +91,7 @@ inner_is front whole inner e =
     ∙ ap (drop (length (front ++ 60 ∷ []))) (take-append_seam xs (62 ∷ []))
     ∙ drop-append_seam (front ++ 60 ∷ []) inner
 
--- a text is a name with an argument, or with none
+-- a text is a name with an argument, or is not
 pub inner_or_none : (front whole : List ℕ) → ((inner : List ℕ) × (whole ≡ whole_name front (Some inner))) ⊎ ((inner : List ℕ) → whole ≡ whole_name front (Some inner) → ⊥)
 inner_or_none front whole = go (text_or_not whole (whole_name front (Some (inner_of front whole))))
   where

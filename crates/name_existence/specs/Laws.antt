@@ -1,4 +1,4 @@
--- What names find and which types are defined: for every program there is an answer.
+-- What names find, and which types are defined: every program has an answer.
 use Rattle.std.specs.Prelude.{◌⊎◌, ℕ, List, Option}
 use Rattle.ipdl_syntax.specs.declared.program.Entry.{Entry}
 use Rattle.ipdl_syntax.specs.declared.tree.Base.{Base}
@@ -19,11 +19,11 @@ DerivationsAreDecided = (nodes : List Node) (k : ℕ) → IsDerived nodes k ⊎ 
 abbrev pub SightsAreListed : Type 0
 SightsAreListed = (program : List Entry) (file : ℕ) → IsListed (λ (seen : DeclId × List ℕ). Sees program file seen.0 seen.1)
 
--- In each file each text, with its argument or without one, finds nothing, one declaration, or two that differ.
+-- In each file each text, with or without an argument, finds nothing, one declaration, or two different declarations.
 abbrev pub NamesHaveAnswers : Type 0
 NamesHaveAnswers = (program : List Entry) (file : ℕ) (text : List ℕ) (argument : Option (List ℕ)) → (finds : Found) × Counts (Finds program file text argument) finds
 
--- In each file each text finds no protocol, one, or two that differ.
+-- In each file each text finds no protocol, one protocol, or two different ones.
 abbrev pub ProtocolNamesHaveAnswers : Type 0
 ProtocolNamesHaveAnswers = (program : List Entry) (file : ℕ) (text : List ℕ) → (finds : Found) × Counts (FindsAsProtocol program file text) finds
 

@@ -1,4 +1,4 @@
-//! The laws of what names find, of what a file sees and of which types are defined.
+//! The laws of what names find, of what a file sees, and of which types are defined.
 
 ghost use Rattle.name_existence.specs.Laws.{DerivationsAreDecided, SightsAreListed, NamesHaveAnswers, ProtocolNamesHaveAnswers, TypesAreDecided};
 
@@ -12,13 +12,14 @@ pub fn sights_are_listed()
     ensures { SightsAreListed }
 {}
 
-/// The law of names: in each file each text, with its argument or without one, finds nothing, one
-/// declaration, or two that differ.
+/// The law of names: in each file each text, with or without an argument, finds nothing, one
+/// declaration, or two different declarations.
 pub fn names_have_answers()
     ensures { NamesHaveAnswers }
 {}
 
-/// The law of the names of protocols: in each file each text finds no protocol, one, or two that differ.
+/// The law of the names of protocols: in each file each text finds no protocol, one protocol, or
+/// two different ones.
 pub fn protocol_names_have_answers()
     ensures { ProtocolNamesHaveAnswers }
 {}

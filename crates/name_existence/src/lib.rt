@@ -1,5 +1,5 @@
-//! Laws of what names find: what a file sees is listed, each name finds none, one or two that differ, and
-//! which types are defined is decided. No function that runs.
+//! Laws of what names find: what a file sees is listed, each name finds nothing, one declaration or
+//! two different ones, and which types are defined is decided. There is no function that runs.
 #![tactic(auto)]
 
 mod laws;

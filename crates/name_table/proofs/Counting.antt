@@ -1,4 +1,4 @@
--- How a look-up counts what a name finds.
+-- How a lookup counts what a name finds.
 use Rattle.std.proofs.Common.{◌≡◌, ◌≢◌, ◌⊎◌, inl, inr, ◌∙◌, ◌<◌, ◌≤◌, ◌+◌, ℕ, Bool, true, false, List, [], ◌∷◌, ◌++◌, length, take, get_or, Option, Some, None, refl, sym, ap, subst, arith}
 use Rattle.std.specs.List.{Contains}
 use Rattle.std.proofs.lemmas.Bool.{cases_lt}
@@ -20,8 +20,8 @@ use Rattle.name_table.specs.Visible.{Sees}
 use Rattle.name_table.proofs.Order.{in_none, in_cons, in_row, row_order, comes_before}
 use Rattle.name_table.proofs.Seeing.{sees_shown}
 
--- What was found after some of a row: of the candidates there, and of what was found before the row. F is what is to be found,
--- B what was found before, C the candidates, and E says that two are one.
+-- What was found after some of a row: of the candidates there, and of what was found before the row. F is what must
+-- be found, B what was found before, C the candidates, and E means that two count as one.
 abbrev pub Tally : (F B C : DeclId → Type 0) → (DeclId → DeclId → Type 0) → List DeclId → Found → Type 0
 Tally F B C E seen found.None = ((d : DeclId) → ¬ B d) × ((d : DeclId) → Contains seen d → ¬ C d)
 Tally F B C E seen (found.One a) = F a × ((d : DeclId) → B d → d ≡ a) × ((d : DeclId) → Contains seen d → C d → E a d)
@@ -34,7 +34,7 @@ module _ (F B C : DeclId → Type 0) (E : DeclId → DeclId → Type 0) where
   tally_start (found.One a) into h = (into a h.0, h.1, λ d c. absurd (in_none d c))
   tally_start (found.Many a b) into h = (into a h.0, into b h.1, h.2)
 
-  -- one that is no candidate
+  -- a declaration that is not a candidate
   pub tally_miss : (row : List DeclId) (k : ℕ) (d : DeclId) (f : Found) → k < length row → d ≡ get_or row k d → ¬ C d → Tally F B C E (take k row) f → Tally F B C E (take (k + 1) row) f
   tally_miss row k d f below at none t =
       subst (λ (s : List DeclId). Tally F B C E s f) (sym (take_more row k d below ∙ ap (λ y. take k row ++ y ∷ []) (sym at))) (go f t)
@@ -71,7 +71,7 @@ module _ (F B C : DeclId → Type 0) (E : DeclId → DeclId → Type 0) where
         ],
       )
 
-  -- behind the row all is counted
+  -- after the row everything is counted
   pub tally_end : (row : List DeclId) (f : Found) → ((d : DeclId) → F d → B d ⊎ (C d × Contains row d)) → ((a d : DeclId) → F a → F d → E a d → d ≡ a) → Tally F B C E row f → Counts F f
   tally_end row found.None cover once t = λ d h. elim (cover d h) [ inl b ↦ t.0 d b | inr c ↦ t.1 d c.1 c.0 ]
   tally_end row (found.One a) cover once t = (t.0, λ d h. elim (cover d h) [ inl b ↦ t.1 d b | inr c ↦ once a d t.0 h (t.2 d c.1 c.0) ])
@@ -98,7 +98,7 @@ one_through program a d u (inl p) (inr (f, i, o, j, q, r, e)) = inr (o, j, f, i,
 one_through program a d u (inr (f, i, o, j, q, r, e)) (inl p) = inr (f, i, o, j, q, p ∙ r, e ∙ ap (full_name_of program) (sym p))
 one_through program a d u (inr (f, i, o, j, q, r, e)) (inr (g, k, o', j', q', r', e')) = inr (f, i, g, k, q, q', e ∙ sym e')
 
--- a candidate is found, where no using of its full name comes before it in the row
+-- a candidate is found if no using of its full name comes before it in the row
 pub finds_new : (program : List Entry) (file : ℕ) (text : List ℕ) (argument : Option (List ℕ)) (k : ℕ) (d : DeclId)
     → k < length (listed_under text (declared_from 0 program)) → d ≡ get_or (listed_under text (declared_from 0 program)) k d
     → IsCandidate program file text argument d
@@ -146,7 +146,7 @@ found_covered program file text argument (Protocol o) h =
 found_covered program file text argument (Using o p) h =
     inr (record { full = h.full; seen = h.seen; named = h.named; own = λ x y e. h.own }, in_row program o (Using o p) h.full text argument (refl, (sees_shown program h.seen).1) h.named)
 
--- of two usings that are one, each the first, neither stands before the other
+-- two usings that count as one are the same if each is the first
 same_place : (file place other there : ℕ) → ¬ IsBefore file place other there → ¬ IsBefore other there file place → (file ≡ other) × (place ≡ there)
 same_place file place other there p q =
     elim (cases_lt file other) [
@@ -182,7 +182,7 @@ found_once program file text argument a d p q (inr (f, i, o, j, e, g, same)) =
 pub item_at : (xs : List DeclId) (k : ℕ) (a : DeclId) → k < length xs → get_or xs k a ≡ get_or xs k (get_or xs k a)
 item_at xs k a below = sym (get_or_from_slice_get xs k (get_or xs k a) (get_or xs k a) (slice_get-get_or xs k a below))
 
--- what the tally of a whole row tells
+-- what follows from the tally of a whole row
 pub counted : (F B C : DeclId → Type 0) (E : DeclId → DeclId → Type 0) (row whole : List DeclId) (k : ℕ) (f : Found) → row ≡ whole → length row ≤ k
     → ((d : DeclId) → F d → B d ⊎ (C d × Contains whole d)) → ((a d : DeclId) → F a → F d → E a d → d ≡ a) → Tally F B C E (take k row) f → Counts F f
 counted F B C E row whole k f same past cover once t =

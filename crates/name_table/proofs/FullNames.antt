@@ -13,7 +13,7 @@ use Rattle.ipdl_syntax.specs.Grammar.{whole_name}
 abbrev pub colon : ℕ → Bool
 colon b = b == 58
 
--- without a colon the short name is all
+-- without a colon the short name is the full name
 pub short_name-whole : (xs : List ℕ) → list_any colon xs ≡ false → short_name xs ≡ xs
 short_name-whole [] h = refl
 short_name-whole (b ∷ bs) h = go (colon b) (list_any colon bs) refl refl h
@@ -23,7 +23,7 @@ short_name-whole (b ∷ bs) h = go (colon b) (list_any colon bs) refl refl h
     go false true p q bare = absurd (true≢false bare)
     go false false p q bare = ap (λ (t : Bool). if t then short_name bs else (if colon b then bs else b ∷ bs)) q ∙ ap (λ (t : Bool). if t then bs else b ∷ bs) p
 
--- a short name is no longer than all, and as long only where it is all
+-- a short name is shorter than the full name, or is the full name
 pub short_name-length : (xs : List ℕ) → (length (short_name xs) < length xs) ⊎ (short_name xs ≡ xs)
 short_name-length [] = inr refl
 short_name-length (b ∷ bs) = go (list_any colon bs) (colon b) refl refl (short_name-length bs)
@@ -40,7 +40,7 @@ short_name-length (b ∷ bs) = go (list_any colon bs) (colon b) refl refl (short
         inl (omega (arith, ap length e))
     go false false q p rest = inr (ap (λ (t : Bool). if t then short_name bs else (if colon b then bs else b ∷ bs)) q ∙ ap (λ (t : Bool). if t then bs else b ∷ bs) p)
 
--- what stands before the first of some bytes is all where there is none, and else it is shorter
+-- the part before the first of some bytes is all if there is no such byte, and shorter if there is one
 pub before_first-all : (p : ℕ → Bool) (xs : List ℕ) → list_any p xs ≡ false → before_first p xs ≡ xs
 before_first-all p [] h = refl
 before_first-all p (x ∷ xs) h = go (p x) refl h (before_first-all p xs)
@@ -67,7 +67,7 @@ before_first-less p (x ∷ xs) h = go (p x) refl h (before_first-less p xs)
         let less = rest (sym (ap (λ (t : Bool). t || list_any p xs) q) ∙ some) in
         omega (arith, ap length e, less)
 
--- a text without such a byte, in front of one, is what stands before the first
+-- a text without such a byte, followed by one, is the part before the first
 pub before_first-append : (p : ℕ → Bool) (xs : List ℕ) (y : ℕ) (ys : List ℕ) → list_any p xs ≡ false → p y ≡ true → before_first p (xs ++ y ∷ ys) ≡ xs
 before_first-append p [] y ys h q = ap (λ (t : Bool). take (cond (not t) (1 + prefix_len (λ z. not (p z)) ys) 0) (y ∷ ys)) q
 before_first-append p (x ∷ xs) y ys h q = go (p x) refl h (λ bare. before_first-append p xs y ys bare q)
@@ -80,7 +80,7 @@ before_first-append p (x ∷ xs) y ys h q = go (p x) refl h (λ bare. before_fir
         ∙ ap (λ n. take n (x ∷ xs ++ y ∷ ys)) one
         ∙ ap (λ zs. x ∷ zs) (rest (sym (ap (λ (t : Bool). t || list_any p xs) r) ∙ bare))
 
--- a list contains a number where a test finds it
+-- a test finds each number that a list contains
 pub contains_any : (n : ℕ) (xs : List ℕ) → Contains xs n → list_any (λ b. b == n) xs ≡ true
 contains_any n [] c = let k = c.1 in absurd (omega arith)
 contains_any n (x ∷ xs) (zero, below, is) = ap (λ (t : Bool). t || list_any (λ b. b == n) xs) (subst (λ m. (x == m) ≡ true) is (elim (eqb_tells x x) [ inl h ↦ h.0 | inr h ↦ absurd (h.1 refl) ]))
@@ -104,7 +104,7 @@ contains_not n xs none = go (list_any (λ b. b == n) xs) refl
     go true h = absurd (none (any_contains n xs h))
     go false h = h
 
--- where a text is front and more, and where it is not
+-- when a text begins with a prefix, and when it does not
 pub front_not : (front whole : List ℕ) → pointwise nat_eq (take (length front) whole) front ≡ false → (more : List ℕ) → ¬ (whole ≡ front ++ more)
 front_not front whole differ more e =
     true≢false (sym ((bytes_eq-Decides (take (length front) whole) front).1 (ap (take (length front)) e ∙ take-append_seam front more)) ∙ differ)
@@ -118,7 +118,7 @@ pub last_is : (whole : List ℕ) (b : ℕ) → pointwise nat_eq (drop (length wh
 last_is whole b same =
     sym (take-append-drop (length whole - 1) whole) ∙ ap (λ xs. take (length whole - 1) whole ++ xs) ((bytes_eq-Decides (drop (length whole - 1) whole) (b ∷ [])).0 same)
 
--- a name with its argument, from its front
+-- a name with its argument, from its beginning
 pub whole_name-parts : (text inner : List ℕ) → whole_name text (Some inner) ≡ text ++ (60 ∷ (inner ++ 62 ∷ []))
 whole_name-parts text inner = append_assoc (text ++ 60 ∷ []) inner (62 ∷ []) ∙ append_assoc text (60 ∷ []) (inner ++ 62 ∷ [])
 

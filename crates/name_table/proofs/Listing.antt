@@ -28,7 +28,7 @@ bytes_eq-flip xs ys = go (bytes_eq xs ys) (bytes_eq ys xs) refl refl
     go true false p q = sym ((bytes_eq-Decides ys xs).1 (sym ((bytes_eq-Decides xs ys).0 p))) ∙ q
     go false true p q = sym p ∙ (bytes_eq-Decides xs ys).1 (sym ((bytes_eq-Decides ys xs).0 q))
 
--- where the row of one text has one more declaration, and all others are as before
+-- the row of one text has one more declaration, and all other rows are as before
 pub listed_one : {S : Type 0} (old new : IndexMap (Bor (List ℕ)) (Vec DeclId Global) S) (text : Bor (List ℕ)) (w : Vec DeclId Global) (id : DeclId)
     → ((q : Bor (List ℕ)) → get_by (λ k. bytes_eq q.now k.now) new ≡ cond (bytes_eq text.now q.now) (Some w) (get_by (λ k. bytes_eq q.now k.now) old))
     → w.items ≡ row_of old text.now ++ id ∷ []
@@ -85,7 +85,7 @@ front_part full front e apart = go (list_any is_open full) refl
     go true q = q
     go false q = absurd (apart (ap length (e ∙ before_first-all is_open full q)))
 
--- listed under its front and its short name, which differ
+-- listed under the part before its argument and its short name, which differ
 pub listed_both : (full front last : List ℕ) (id : DeclId) → front ≡ before_first is_open full → length front ≡ length full → last ≡ short_name full → length last < length full
     → (text : List ℕ) → (if bytes_eq text front then id ∷ [] else []) ++ (if bytes_eq text last then id ∷ [] else []) ≡ listed_under text ((id, full) ∷ [])
 listed_both full front last id e same f less text = go (bytes_eq text front) (bytes_eq text last) refl refl
@@ -102,7 +102,7 @@ listed_both full front last id e same f less text = go (bytes_eq text front) (by
     go false true p q = sym (listed_single text full id true (by_parts text full false true false (ap (bytes_eq text) (sym e) ∙ p) bare (ap (bytes_eq text) (sym f) ∙ q)))
     go false false p q = sym (listed_single text full id false (by_parts text full false false false (ap (bytes_eq text) (sym e) ∙ p) bare (ap (bytes_eq text) (sym f) ∙ q)))
 
--- listed under its front alone: its short name is all of it, or it has none
+-- listed under the part before its argument alone: its short name is all of it, or it has no short name
 pub listed_front : (full front last : List ℕ) (id : DeclId) → front ≡ before_first is_open full → last ≡ short_name full
     → ((length front ≡ length full) × (length full ≤ length last)) ⊎ ¬ (length front ≡ length full)
     → (text : List ℕ) → (if bytes_eq text front then id ∷ [] else []) ≡ listed_under text ((id, full) ∷ [])
@@ -126,7 +126,7 @@ listed_front full front last id e f (inl long) text = go (bytes_eq text front) r
     go true p = sym (listed_single text full id true (by_parts text full true true false (ap (bytes_eq text) (sym e) ∙ p) bare (ap (bytes_eq text) (sym same) ∙ p)))
     go false p = sym (listed_single text full id false (by_parts text full false false false (ap (bytes_eq text) (sym e) ∙ p) bare (ap (bytes_eq text) (sym same) ∙ p)))
 
--- what is listed of two lists
+-- the listed declarations of two lists
 pub listed_under-append : (text : List ℕ) (xs ys : List (DeclId × List ℕ)) → listed_under text (xs ++ ys) ≡ listed_under text xs ++ listed_under text ys
 listed_under-append text [] ys = refl
 listed_under-append text (x ∷ xs) ys = go (is_listed_under text x.1) (listed_under-append text xs ys)
@@ -185,7 +185,7 @@ lists_file file entry us ss ns last a b c d e one two three four p q r s =
     (lists_more _ _ c d e (subst (λ (xs : List (List ℕ)). Lists (numbered (Union file) 0 xs) c d) three r)
     (subst (λ (ds : List (DeclId × List ℕ)). Lists ds d e) four s)))
 
--- what one more file declares comes last
+-- the declarations of one more file come last
 declared_from-more : (file : ℕ) (program : List Entry) (entry : Entry) → declared_from file (program ++ entry ∷ []) ≡ declared_from file program ++ declared_in (file + length program) entry
 declared_from-more file [] entry = append-nil (declared_in file entry) ∙ ap (λ n. declared_in n entry) (sym (add-zero file))
 declared_from-more file (e ∷ program) entry =

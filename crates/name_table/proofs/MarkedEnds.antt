@@ -7,7 +7,7 @@ use Rattle.std.proofs.lemmas.Slice.Eq.{bytes_eq-Decides}
 use Rattle.name_table.specs.declared.decl.DeclId.{DeclId}
 use Rattle.name_table.specs.Ends.{ends_of}
 
--- no entry has a text whose ends are not marked, where those of all entries are
+-- no entry has a text whose ends are not marked, if the ends of all entries are marked
 pub not_listed : (marks : List Bool) (text : List ℕ) (entries : List (Bor (List ℕ) × Vec DeclId Global)) → ((i : ℕ) (e : Bor (List ℕ) × Vec DeclId Global) → slice_get entries i ≡ Some e → slice_index_or marks (ends_of e.0.now) true ≡ true)
     → slice_index_or marks (ends_of text) true ≡ false → lookup (λ (k : Bor (List ℕ)). bytes_eq text k.now) entries ≡ None
 not_listed marks text [] all h = refl

@@ -1,4 +1,4 @@
--- How marks grow, and why marks that are closed are on all that is reached.
+-- How marks grow, and why all reached files have marks that are closed.
 use Rattle.std.proofs.Common.{◌≡◌, ◌≢◌, ◌⊎◌, ◌∙◌, inl, inr, ◌<◌, ◌+◌, ℕ, zero, suc, Bool, true, false, List, [], ◌∷◌, ◌++◌, length, get_or, refl, sym, ap, subst, arith, Option, Some, None, IsSomeAnd, is_some, not, length-append, cond, eqb, true≢false, slice_get, ◌≤◌, take, drop, append-nil, append_assoc}
 use Rattle.std.proofs.lemmas.Bool.Decides.{eqb_tells}
 use Rattle.std.proofs.lemmas.Bool.{cases_lt}
@@ -38,7 +38,7 @@ still x n marks within h = go (eqb_tells n x)
     go (inl e) = subst (IsMarked (slice_set marks x true)) (sym e.1) (get_or-set_same marks x true false within)
     go (inr ne) = get_or-set_other marks x n true false ne.1 ∙ h
 
--- a file that had no mark, and joins the work
+-- a file that had no mark is added to the work
 pub marks_new : (x : ℕ) (marks : List Bool) (work : List ℕ) → x < length marks → slice_index_or marks x false ≡ false
     → Marks (x ∷ []) marks work (slice_set marks x true) (work ++ x ∷ [])
 marks_new x marks work within bare =
@@ -76,8 +76,8 @@ marks_more these those a u b v c w p q = record {
   less = omega (arith, p.less, q.less);
 }
 
--- Marks while includes are followed: each has a derivation, those in the work are marked, and of any other that is followed
--- what it includes is marked.
+-- Marks while includes are followed: each has a derivation, those in the work are marked, and of any other marked
+-- file that is followed the included files are marked.
 pub record Follows (program : List Entry) (from : ℕ) (marks : List Bool) (work : List ℕ) : Type 0 where
   pub size : length marks ≡ length program
   pub begun : IsMarked marks from
@@ -85,13 +85,13 @@ pub record Follows (program : List Entry) (from : ℕ) (marks : List Bool) (work
   pub waiting : (n : ℕ) → Contains work n → IsMarked marks n
   pub closed : (n : ℕ) → IsMarked marks n → Contains work n ⊎ (IsFollowed program from n → (m : ℕ) → Includes program n m → m < length program → IsMarked marks m)
 
--- where no work is left, what a marked file includes is marked, and so is all that is reached
+-- if no work is left, the files that a marked file includes are marked, and all reached files are too
 pub complete : (program : List Entry) (from : ℕ) (marks : List Bool) → Follows program from marks [] → {n : ℕ} → Reaches program from n → IsMarked marks n
 complete program from marks f (start below) = f.begun
 complete program from marks f (step {file} {other} r along e below) =
     elim (f.closed file (complete program from marks f r)) [ inl c ↦ (let k = c.1 in absurd (omega arith)) | inr next ↦ next along other e below ]
 
--- what the entry at an index includes
+-- the files that the entry at an index includes
 pub included : (program : List Entry) (x : ℕ) (entry : Entry) → slice_get program x ≡ Some entry → (m : ℕ) → Contains entry.includes m → Includes program x m
 included program x entry at m c = subst (λ (o : Option Entry). IsSomeAnd o (λ (e : Entry). Contains e.includes m)) (sym at) c
 
@@ -149,14 +149,14 @@ follows_first program from a b v below size bare m = record {
   closed = λ n h. elim (m.added n h) [ inl o ↦ absurd (bare n o) | inr c ↦ inl c ];
 }
 
--- the entry at an index is a header's where it has no protocol
+-- the file at an index is a header if its entry has no protocol
 pub header_at : (program : List Entry) (x : ℕ) (entry : Entry) → slice_get program x ≡ Some entry → entry.unit.protocol ≡ None → IsHeader program x
 header_at program x entry at none = subst (λ (o : Option Entry). IsSomeAnd o (λ (e : Entry). e.unit.protocol ≡ None)) (sym at) none
 
 pub no_protocol : (program : List Entry) (x : ℕ) (entry : Entry) → slice_get program x ≡ Some entry → IsHeader program x → entry.unit.protocol ≡ None
 no_protocol program x entry at h = subst (λ (o : Option Entry). IsSomeAnd o (λ (e : Entry). e.unit.protocol ≡ None)) at h
 
--- what `is_none` tells
+-- what `is_none` means
 pub is_none_tells : {X : Type 0} (o : Option X) (answer : Bool) → is_some o ≡ not answer → answer ≡ true → o ≡ None
 is_none_tells None answer e h = refl
 is_none_tells (Some x) answer e h = absurd (true≢false (e ∙ ap not h))
@@ -165,14 +165,14 @@ pub is_none_denies : {X : Type 0} (o : Option X) (answer : Bool) → is_some o �
 is_none_denies None answer e h none = true≢false (sym (e ∙ ap not h))
 is_none_denies (Some x) answer e h none = true≢false (ap is_some none)
 
--- What a list of files has while includes are followed from one: each is reached, and of each before a place that is followed it
--- has what it includes.
+-- A list of files while includes are followed from one file: each file is reached, and for each followed file before
+-- an index the list has the files that it includes.
 pub record Walks (program : List Entry) (from : ℕ) (files : List ℕ) (next : ℕ) : Type 0 where
   pub begun : Contains files from
   pub sound : (n : ℕ) → Contains files n → Reaches program from n
   pub closed : (n : ℕ) → Contains (take next files) n → IsFollowed program from n → (m : ℕ) → Includes program n m → m < length program → Contains files m
 
--- a list whose files are all followed has all that is reached
+-- a list whose files are all followed has all reached files
 all_reached : (program : List Entry) (from : ℕ) (files : List ℕ) (next : ℕ) → Walks program from files next → length files ≤ next → {n : ℕ} → Reaches program from n → Contains files n
 all_reached program from files next w all (start below) = w.begun
 all_reached program from files next w all (step {file} {other} r along e below) =
@@ -188,7 +188,7 @@ walks_first program from below = record {
   closed = λ n h. (let k = h.1 in absurd (omega arith));
 }
 
--- a place in the front of a longer list, or its last
+-- an index in the prefix of a longer list, or its last
 front_or_last : (files more : List ℕ) (next n : ℕ) → next < length files → Contains (take (next + 1) (files ++ more)) n → Contains (take next files) n ⊎ (n ≡ get_or files next 0)
 front_or_last files more next n below h =
     let longer = take-append-le (next + 1) files more (omega (arith, below)) in
@@ -198,7 +198,7 @@ front_or_last files more next n below h =
 in_front : (files : List ℕ) (next n : ℕ) → Contains (take next files) n → Contains files n
 in_front files next n h = subst (λ (xs : List ℕ). Contains xs n) (take-append-drop next files) (Contains-append_left _ (drop next files) n h)
 
--- one file more is followed
+-- one more file is followed
 pub walks_more : (program : List Entry) (from : ℕ) (files : List ℕ) (next x : ℕ) (entry : Entry) (new : List ℕ)
     → next < length files → x ≡ get_or files next 0 → slice_get program x ≡ Some entry → IsFollowed program from x
     → Walks program from files next → Joins (length program) entry.includes files new → Walks program from new (next + 1)
@@ -217,7 +217,7 @@ walks_more program from files next x entry new below is at along w j =
       ];
     }
 
--- one file more is passed that is not followed
+-- one more file is passed that is not followed
 pub walks_past : (program : List Entry) (from : ℕ) (files : List ℕ) (next x : ℕ) → next < length files → x ≡ get_or files next 0 → ¬ IsFollowed program from x → Walks program from files next → Walks program from files (next + 1)
 walks_past program from files next x below is never w = record {
   begun = w.begun;
@@ -228,12 +228,12 @@ walks_past program from files next x below is never w = record {
   ];
 }
 
--- what is reached is a file of the program
+-- a reached file is one of the program
 pub reached_within : (program : List Entry) (from : ℕ) {file : ℕ} → Reaches program from file → file < length program
 reached_within program from (start below) = below
 reached_within program from (step r along e below) = below
 
--- what is there, or is no file, does not join
+-- a number that is there, or is no file, is not added
 pub joins_none : (count file : ℕ) (files : List ℕ) → (file < count → Contains files file) → Joins count (file ∷ []) files files
 joins_none count file files there = record {
   more = [];
@@ -242,7 +242,7 @@ joins_none count file files there = record {
   joined = λ n h b. (let is = the_one file n h in subst (Contains files) (sym is) (there (subst (λ k. k < count) is b)));
 }
 
--- first these join, and then those
+-- first these files are added, and then those
 pub joins_more : (count : ℕ) (these those a b c : List ℕ) → Joins count these a b → Joins count those b c → Joins count (these ++ those) a c
 joins_more count these those a b c p q = record {
   more = p.more ++ q.more;

@@ -147,11 +147,11 @@ in_listed text (x ∷ all) d full c e = go (is_listed_under text x.1) refl (in_c
     go false t (inr there) rest =
         subst (λ (b : Bool). Contains (map (λ (p : DeclId × List ℕ). p.0) (cond b (x ∷ filter (λ p. is_listed_under text p.1) all) (filter (λ p. is_listed_under text p.1) all))) d) (sym t) (rest there)
 
--- what is declared and named by a text is in the row of that
+-- a declaration that a text names is in the row of the text
 pub in_row : (program : List Entry) (file : ℕ) (d : DeclId) (full text : List ℕ) (argument : Option (List ℕ)) → Declares program file d full → IsNameOf text argument full → Contains (listed_under text (declared_from 0 program)) d
 in_row program file d full text argument is named = in_listed text (declared_from 0 program) d full (all_declared program file d full is) (name_listed text argument full named)
 
--- what is listed was there
+-- a listed declaration is one of the given ones
 from_listed : (text : List ℕ) (all : List (DeclId × List ℕ)) (d : DeclId) → Contains (listed_under text all) d → (full : List ℕ) × Contains all (d, full)
 from_listed text [] d c = absurd (in_none d c)
 from_listed text (x ∷ all) d c = go (is_listed_under text x.1) c (from_listed text all d)
@@ -166,14 +166,14 @@ from_listed text (x ∷ all) d c = go (is_listed_under text x.1) c (from_listed 
 
 -- Usings come in their order
 
--- no using in the list stands before this file and place
-abbrev Behind : ℕ → ℕ → List (DeclId × List ℕ) → Type 0
-Behind file place all = (other there : ℕ) (full : List ℕ) → Contains all (Using other there, full) → ¬ IsBefore other there file place
+-- no using in the list is before this file and place
+abbrev Following : ℕ → ℕ → List (DeclId × List ℕ) → Type 0
+Following file place all = (other there : ℕ) (full : List ℕ) → Contains all (Using other there, full) → ¬ IsBefore other there file place
 
--- behind each using stands none that is before it
+-- after each using there is no using that is before it
 abbrev InOrder : List (DeclId × List ℕ) → Type 0
 InOrder [] = Unit {0}
-InOrder (x ∷ all) = ((file place : ℕ) → x.0 ≡ Using file place → Behind file place all) × InOrder all
+InOrder (x ∷ all) = ((file place : ℕ) → x.0 ≡ Using file place → Following file place all) × InOrder all
 
 abbrev NoUsings : List (DeclId × List ℕ) → Type 0
 NoUsings all = (file place : ℕ) (full : List ℕ) → ¬ Contains all (Using file place, full)
@@ -185,7 +185,7 @@ no_usings_order (x ∷ all) none = (
   no_usings_order all (λ file place full c. none file place full (in_tail x all (Using file place, full) c)),
 )
 
-order-append : (xs ys : List (DeclId × List ℕ)) → InOrder xs → InOrder ys → ((file place : ℕ) (full : List ℕ) → Contains xs (Using file place, full) → Behind file place ys) → InOrder (xs ++ ys)
+order-append : (xs ys : List (DeclId × List ℕ)) → InOrder xs → InOrder ys → ((file place : ℕ) (full : List ℕ) → Contains xs (Using file place, full) → Following file place ys) → InOrder (xs ++ ys)
 order-append [] ys p q cross = q
 order-append (x ∷ xs) ys p q cross = (
   (λ file place e other there full c. elim (Contains-append_cases xs ys (Using other there, full) c) [
@@ -296,14 +296,14 @@ listed_order text (x ∷ all) p = go (is_listed_under text x.1) (listed_order te
 pub row_order : (text : List ℕ) (program : List Entry) → IsRowInOrder (listed_under text (declared_from 0 program))
 row_order text program = listed_order text (declared_from 0 program) (program_order 0 program)
 
--- a using that stands before another one comes before it in the row
+-- a using that is before another one comes before it in the row
 pub comes_before : (row : List DeclId) (k : ℕ) (d : DeclId) (file place other there : ℕ) → IsRowInOrder row → k < length row → d ≡ get_or row k d → d ≡ Using file place
     → Contains row (Using other there) → IsBefore other there file place → Contains (take k row) (Using other there)
 comes_before [] k d file place other there order below at is c before = absurd (in_none (Using other there) c)
 comes_before (x ∷ row) zero d file place other there order below at is c before =
     elim (in_cons x row (Using other there) c) [
       | inl same ↦ absurd (apart (at ∙ sym same))
-      | inr behind ↦ absurd (order.0 file place other there (sym at ∙ is) behind before)
+      | inr following ↦ absurd (order.0 file place other there (sym at ∙ is) following before)
     ]
   where
     using_file : Using file place ≡ Using other there → file ≡ other
@@ -319,5 +319,5 @@ comes_before (x ∷ row) zero d file place other there order below at is c befor
         elim before [ inl less ↦ absurd (omega (arith, less, one)) | inr late ↦ absurd (omega (arith, late.1, two)) ]
 comes_before (x ∷ row) (suc k) d file place other there order below at is c before = elim (in_cons x row (Using other there) c) [
   | inl same ↦ subst (λ (y : DeclId). Contains (y ∷ take k row) (Using other there)) same (in_front (Using other there) (take k row))
-  | inr behind ↦ in_tail x (take k row) (Using other there) (comes_before row k d file place other there order.1 (omega (arith, below)) at is behind before)
+  | inr following ↦ in_tail x (take k row) (Using other there) (comes_before row k d file place other there order.1 (omega (arith, below)) at is following before)
 ]

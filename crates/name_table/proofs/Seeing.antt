@@ -1,4 +1,4 @@
--- A file sees what is declared in the files that are reached from it.
+-- A file sees declarations of the files that are reached from it.
 use Rattle.std.proofs.Common.{◌≡◌, inl, inr, ◌∙◌, ◌<◌, ◌≤◌, ℕ, Bool, true, false, List, length, arith, get_or, Option, Some, None, IsSomeAnd, slice_get, refl, sym, ap, subst}
 use Rattle.std.specs.Prelude.{option_and_then}
 use Rattle.std.specs.List.{slice_index_or}
@@ -11,7 +11,7 @@ use Rattle.name_table.specs.declared.sight.Reach.{Reach}
 use Rattle.name_table.specs.Marks.{IsFollowed, Reaches, start, step, Shows, AreMarksOf, IsSight, AreSights}
 use Rattle.name_table.specs.Visible.{Sees, own, protocol, header}
 
--- what is said of an entry is said of a file that there is
+-- a file whose entry has a property exists
 pub within : (program : List Entry) (file : ℕ) (P : Entry → Type 0) → IsSomeAnd (slice_get program file) P → file < length program
 within program file P h = go (slice_get program file) refl h
   where
@@ -34,7 +34,7 @@ pub reaches_from : (program : List Entry) (from : ℕ) {file : ℕ} → Reaches 
 reaches_from program from (start below) = below
 reaches_from program from (step r along e below) = reaches_from program from r
 
--- what a header reaches is reached from where it is included
+-- the files that a header reaches are reached from the file that includes it
 through : (program : List Entry) (from other : ℕ) → Includes program from other → IsHeader program other → {file : ℕ} → Reaches program other file → Reaches program from file
 through program from other e h (start below) = step (start (within program from _ e)) (inl refl) e below
 through program from other e h (step {file} r along i below) =
@@ -44,7 +44,7 @@ followed_on : (program : List Entry) (from other file : ℕ) → IsHeader progra
 followed_on program from other file h (inl same) = inr (subst (IsHeader program) (sym same) h)
 followed_on program from other file h (inr is) = inr is
 
--- what a file declares is shown to it
+-- the declarations of a file are shown to it
 own_shown : (program : List Entry) (file : ℕ) (d : DeclId) → file < length program → file_of d ≡ Some file → Shows program file d
 own_shown program file (Using other place) below at = here other file below at
   where
@@ -68,7 +68,7 @@ own_shown program file (Endpoint p managed) below at = wrong at
     wrong : None ≡ Some file → ⊥
     wrong e = cc
 
--- what a header shows is shown where it is included
+-- what a header shows is shown in the file that includes it
 shown_through : (program : List Entry) (from other : ℕ) (d : DeclId) → Includes program from other → IsHeader program other → Shows program other d → Shows program from d
 shown_through program from other (Using file place) e h s = (through program from other e h s.0, followed_on program from other file h s.1)
 shown_through program from other (Struct file place) e h s = (through program from other e h s.0, followed_on program from other file h s.1)
@@ -77,14 +77,14 @@ shown_through program from other (Protocol file) e h s = through program from ot
 shown_through program from other (Builtin type) e h s = s
 shown_through program from other (Endpoint p managed) e h s = s
 
--- what a file sees is shown to it, under its full name
+-- a declaration that a file sees is shown to it, under its full name
 pub sees_shown : (program : List Entry) {file : ℕ} {d : DeclId} {full : List ℕ} → Sees program file d full → Shows program file d × (full_name_of program d ≡ Some full)
 sees_shown program (own {file} {d} {full} is) = (own_shown program file d (declared_within program file d full is) is.0, is.1)
 sees_shown program (protocol {file} {other} {full} e is) =
     (step (start (within program file _ e)) (inl refl) e (declared_within program other (Protocol other) full is), is.1)
 sees_shown program (header {file} {other} {d} {full} e h s) = let k = sees_shown program s in (shown_through program file other d e h k.0, k.1)
 
--- and what is shown is seen
+-- a declaration that is shown is seen
 lifted : (program : List Entry) (from : ℕ) (d : DeclId) (full : List ℕ) {file : ℕ} → Reaches program from file → IsFollowed program from file → Sees program file d full → Sees program from d full
 lifted program from d full (start below) along s = s
 lifted program from d full (step {file} {other} r before e below) (inl same) s = subst (λ f. Sees program f d full) same s
@@ -102,17 +102,17 @@ shown_sees program file (Protocol other) full s is = protocol_seen program file 
 shown_sees program file (Builtin type) full s is = absurd s
 shown_sees program file (Endpoint p managed) full s is = absurd s
 
--- from what is no file nothing is reached
+-- from a number without a file nothing is reached
 pub not_reached : (program : List Entry) (sights : List Reach) (file other : ℕ) → AreSights program sights → length sights ≤ file → ¬ Reaches program file other
 not_reached program sights file other are past r =
     let below = reaches_from program file r in
     absurd (omega (arith, below, past, are.size))
 
--- what is kept of a file
+-- the stored list or marks of a file
 pub sight_at : (program : List Entry) (sights : List Reach) (file : ℕ) (sight : Reach) → AreSights program sights → file < length sights → sight ≡ get_or sights file sight → IsSight program file sight
 sight_at program sights file sight are below at = are.of_file file sight (slice_get_read sights (length sights) file sight refl below at)
 
--- a mark that was read tells whether a file is reached
+-- a mark that was read decides whether a file is reached
 pub mark_tells : (program : List Entry) (file other : ℕ) (marks : List Bool) (mark : Bool) → AreMarksOf program file marks → other < length marks → mark ≡ get_or marks other mark → ((mark ≡ true) → Reaches program file other) × (Reaches program file other → mark ≡ true)
 mark_tells program file other marks mark are below at =
     let same : slice_index_or marks other false ≡ mark = get_or_from_slice_get marks other mark false (slice_get_read marks (length marks) other mark refl below at) in

@@ -42,14 +42,14 @@ worked =
     ∷ a_file (codes "PB.ipdl") [] [] (a_struct (codes "Hidden") ∷ []) (Some (a_protocol (codes "PB")))
     ∷ []
 
--- the struct in the second header of the ring is seen in the protocol file, and round the ring in the header itself
+-- the struct in the second header of the ring is seen in the protocol file, and through the ring in the header itself
 far_struct : Sees worked 0 (Struct 2 0) (codes "M::S")
 far_struct = header {other = 1} (0, omega arith, refl) refl (header {other = 2} (0, omega arith, refl) refl (own (refl, refl)))
 
 round_the_ring : Sees worked 2 (Struct 2 0) (codes "M::S")
 round_the_ring = header {other = 1} (0, omega arith, refl) refl (header {other = 2} (0, omega arith, refl) refl (own (refl, refl)))
 
--- it is found by its short name
+-- the struct is found by its short name
 short : Finds worked 0 (codes "S") None (Struct 2 0)
 short = (codes "M::S", far_struct, inr (refl, refl, no_open))
   where
@@ -63,11 +63,11 @@ short = (codes "M::S", far_struct, inr (refl, refl, no_open))
         apart (suc (suc (suc zero)), b, e) = let h : 83 ≡ 60 = e in absurd (omega (arith, h))
         apart (suc (suc (suc (suc k))), b, e) = absurd (omega (arith, b))
 
--- the protocol that a header includes is seen where the header is included, and so is an endpoint of it found
+-- the protocol that a header includes is seen where the header is included, and its endpoint is found there
 far_protocol : Sees worked 0 (Protocol 3) (codes "PB")
 far_protocol = header {other = 1} (0, omega arith, refl) refl (protocol {other = 3} (1, omega arith, refl) (refl, refl))
 
--- what else its file declares is not: the file is no header
+-- the other declarations of that file are not seen: the file is not a header
 not_hidden : ¬ Sees worked 0 (Struct 3 0) (codes "Hidden")
 not_hidden s = elim (sees_shown worked s).0.1 [ inl same ↦ absurd (omega (arith, same)) | inr is ↦ absurd (wrong is) ]
   where

@@ -1,4 +1,4 @@
--- What stands at a number in a program, and what a name alone finds there.
+-- The declarations of a program by number, and the number of declarations that a name finds.
 use Rattle.std.specs.Prelude.{ℕ, List, Option, slice_get, option_and_then}
 use Rattle.ipdl_syntax.specs.declared.program.Entry.{Entry}
 use Rattle.ipdl_syntax.specs.declared.tree.ProtocolDecl.{ProtocolDecl}
@@ -13,11 +13,11 @@ use Rattle.name_table.specs.Finds.{Finds, FindsAsProtocol, Counts}
 abbrev pub protocol_of : List Entry → ℕ → Option ProtocolDecl
 protocol_of program file = option_and_then (λ e. e.unit.protocol) (slice_get program file)
 
--- the struct at this place in the list of the file
+-- the struct at this index in the list of the file
 abbrev pub struct_of : List Entry → ℕ → ℕ → Option StructDecl
 struct_of program file place = option_and_then (λ e. slice_get e.unit.structs place) (slice_get program file)
 
--- the union at this place in the list of the file
+-- the union at this index in the list of the file
 abbrev pub union_of : List Entry → ℕ → ℕ → Option UnionDecl
 union_of program file place = option_and_then (λ e. slice_get e.unit.unions place) (slice_get program file)
 
@@ -25,11 +25,11 @@ union_of program file place = option_and_then (λ e. slice_get e.unit.unions pla
 abbrev pub FindsNone : List Entry → ℕ → List ℕ → Option (List ℕ) → Type 0
 FindsNone program file text argument = Counts (Finds program file text argument) found.None
 
--- in a file a text with its argument finds this and nothing else
+-- in a file a text with its argument finds this declaration and nothing else
 abbrev pub FindsOne : List Entry → ℕ → List ℕ → Option (List ℕ) → DeclId → Type 0
 FindsOne program file text argument d = Counts (Finds program file text argument) (found.One d)
 
--- in a file a text with its argument finds two that differ
+-- in a file a text with its argument finds two different declarations
 abbrev pub FindsTwo : List Entry → ℕ → List ℕ → Option (List ℕ) → Type 0
 FindsTwo program file text argument = (d : DeclId) × (e : DeclId) × Counts (Finds program file text argument) (found.Many d e)
 
@@ -37,6 +37,6 @@ FindsTwo program file text argument = (d : DeclId) × (e : DeclId) × Counts (Fi
 abbrev pub FindsNoProtocol : List Entry → ℕ → List ℕ → Type 0
 FindsNoProtocol program file text = Counts (FindsAsProtocol program file text) found.None
 
--- in a file a text finds the protocol of this file, and no other
+-- in a file a text finds the protocol of this other file, and no other protocol
 abbrev pub FindsOneProtocol : List Entry → ℕ → List ℕ → ℕ → Type 0
 FindsOneProtocol program file text p = Counts (FindsAsProtocol program file text) (found.One (Protocol p))

@@ -1,4 +1,4 @@
--- Marks on how the texts of a table begin and end.
+-- Marks on the first and last bytes of the texts of a table.
 use Rattle.std.specs.Prelude.{◌≡◌, ℕ, ◌+◌, ◌-◌, Bool, true, false, List, [], length, slice_index, slice_index_or}
 use Rattle.std.specs.Borrow.{Bor}
 use Rattle.std.specs.declared.alloc.Global.{Global}
@@ -7,7 +7,7 @@ use Rattle.indexmap.specs.IndexMap.{IndexMap}
 use Rattle.name_table.specs.declared.decl.DeclId.{DeclId}
 use Rattle.name_table.specs.Rows.{row_of}
 
--- the sum of a text's first and last byte
+-- the sum of a text's first and last bytes
 abbrev pub ends_of : List ℕ → ℕ
 ends_of text = slice_index text 0 + slice_index text (length text - 1)
 

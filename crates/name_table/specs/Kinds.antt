@@ -1,4 +1,4 @@
--- What attributes, `manages` and semantics make of messages and protocols.
+-- What attributes, `manages` and semantics mean for messages and protocols.
 use Rattle.std.specs.Prelude.{◌≡◌, ◌⊎◌, ◌≤◌, ℕ, Bool, false, if◌then◌else◌, List, Option, Some, None, find, codes, option_and_then, is_none}
 use Rattle.std.specs.List.{list_any}
 use Rattle.std.specs.Str.{bytes_eq}
@@ -16,11 +16,11 @@ use Rattle.name_table.specs.declared.strength.Strength.{Strength}
 
 -- Attributes
 
--- of the attributes with this name the first counts
+-- the first attribute with this name; the others do not count
 abbrev pub attribute_named : List ℕ → List Attribute → Option Attribute
 attribute_named name attributes = find (λ a. bytes_eq a.name name) attributes
 
--- the level that a value lists; one that lists none, or no value, counts as no attribute
+-- the level that a value names; any other value, or no value, counts as no attribute
 abbrev pub listed_level : Option (List ℕ) → Level
 listed_level None = Not
 listed_level (Some value) =
@@ -38,7 +38,8 @@ level_of_message m = level_by (codes "Nested") m.attributes
 abbrev pub level_of_protocol : ProtocolDecl → Level
 level_of_protocol p = level_by (codes "NestedUpTo") p.attributes
 
--- what a `Compress` without a value means, and what one with a value does; a value that is not listed counts as no attribute
+-- what a `Compress` without a value means, and what one with a value means; a value that is not listed counts as no
+-- attribute
 abbrev pub listed_compress : Option (List ℕ) → Compress
 listed_compress None = compress.Last
 listed_compress (Some value) = if bytes_eq value (codes "all") then compress.All else compress.Plain
@@ -55,14 +56,14 @@ abbrev pub is_lazy_by : Option Attribute → Bool
 is_lazy_by None = false
 is_lazy_by (Some a) = is_none a.value
 
--- whether a message may wait in its sender's outbox: it has a `LazySend`, and that no value
+-- whether a message may wait in its sender's outbox: it has a `LazySend` without a value
 abbrev pub is_lazy_message : MessageDecl → Bool
 is_lazy_message m = is_lazy_by (attribute_named (codes "LazySend") m.attributes)
 
 -- Kinds
 
--- A message of a protocol is the destructor by its name, and else a constructor where its name is among those of `manages`,
--- whatever that finds.
+-- A message of a protocol is the destructor by its name, and otherwise a constructor if its name is among those of
+-- `manages`, whatever that name finds.
 abbrev pub kind_of_message : ProtocolDecl → MessageDecl → MessageKind
 kind_of_message p m =
     if bytes_eq m.name (codes "__delete__") then kind.Destructor
@@ -88,7 +89,7 @@ strength_of_message m = record { least = level_of_message m; most = level_of_mes
 abbrev pub strength_of_protocol : ProtocolDecl → Strength
 strength_of_protocol p = record { least = Not; most = level_of_protocol p; semantics = p.semantics }
 
--- One converts to another: its levels lie among those of the other, and it is async or the other is sync.
+-- A strength converts to another: its levels are among those of the other, and it is async or the other is sync.
 pub record Converts (one other : Strength) : Type 0 where
   pub least : level_number other.least ≤ level_number one.least
   pub most : level_number one.most ≤ level_number other.most

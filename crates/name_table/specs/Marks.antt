@@ -1,4 +1,4 @@
--- Which files are marked for a file: itself, and what includes lead to through it and through headers.
+-- The files that are marked for a file: itself, and the files to which its includes and those of headers lead.
 use Rattle.std.specs.Prelude.{◌≡◌, ◌⊎◌, ◌<◌, ◌≤◌, ◌+◌, ◌*◌, ◌++◌, ℕ, Bool, true, false, if◌then◌else◌, List, length, slice_get, Some}
 use Rattle.std.specs.List.{Contains, slice_index_or, sum_by}
 use Rattle.ipdl_syntax.specs.declared.program.Entry.{Entry}
@@ -8,16 +8,18 @@ use Rattle.name_table.specs.declared.sight.Reach.{Reach}
 use Rattle.name_table.specs.declared.sight.Reach.TheVariants.{Few, Many}
 use Rattle.name_table.specs.Declares.{Includes, IsHeader}
 
--- from a file its own includes are followed, and those of headers
+-- the includes of a file are followed: those of the file at which the search began, and those of headers
 abbrev pub IsFollowed : List Entry → ℕ → ℕ → Type 0
 IsFollowed program from file = (file ≡ from) ⊎ IsHeader program file
 
--- what is reached from a file: itself, and each file that one includes which is followed
+-- the files that are reached from a file: itself, and each file that is included by a reached file whose includes are
+-- followed
 pub data Reaches (program : List Entry) (from : ℕ) : ℕ → Type 0 where
   start : from < length program → Reaches program from from
   step : {file other : ℕ} → Reaches program from file → IsFollowed program from file → Includes program file other → other < length program → Reaches program from other
 
--- what a file sees, where it is declared: all of a file that is reached and followed, and the protocol of one that is reached
+-- what a file sees, if it is declared: all declarations of a file that is reached and followed, and the protocol of a
+-- file that is reached
 abbrev pub Shows : List Entry → ℕ → DeclId → Type 0
 Shows program file (Using other place) = Reaches program file other × IsFollowed program file other
 Shows program file (Struct other place) = Reaches program file other × IsFollowed program file other
@@ -37,28 +39,28 @@ AreMarksOf program from marks = (file : ℕ) → (IsMarked marks file → Reache
 abbrev pub AreFilesOf : List Entry → ℕ → List ℕ → Type 0
 AreFilesOf program from files = (file : ℕ) → (Contains files file → Reaches program from file) × (Reaches program from file → Contains files file)
 
--- these files were put behind others, each that there is and that was not there
+-- these files were appended to others: each whose number is below the count and which was not in the list
 pub record Joins (count : ℕ) (these old new : List ℕ) : Type 0 where
   pub more : List ℕ
   pub grown : new ≡ old ++ more
   pub only : (n : ℕ) → Contains more n → Contains these n × (n < count)
   pub joined : (n : ℕ) → Contains these n → n < count → Contains new n
 
--- what is kept of the files that are reached from one
+-- the stored list or marks are those of the files that are reached from one
 abbrev pub IsSight : List Entry → ℕ → Reach → Type 0
 IsSight program from (Few files) = AreFilesOf program from files.items
 IsSight program from (Many marks) = AreMarksOf program from marks.items
 
--- that of each file
+-- there is one of these for each file
 pub record AreSights (program : List Entry) (sights : List Reach) : Type 0 where
   pub size : length sights ≡ length program
   pub of_file : (file : ℕ) (sight : Reach) → slice_get sights file ≡ Some sight → IsSight program file sight
 
--- how many have no mark
+-- the number of files without a mark
 abbrev pub unmarked : List Bool → ℕ
 unmarked marks = sum_by (λ b. if b then 0 else 1) marks
 
--- those of these files that there are were marked, and each that is new is in the work
+-- these files were marked as far as they exist, and each that had no mark is in the work
 pub record Marks (these : List ℕ) (old : List Bool) (left : List ℕ) (new : List Bool) (work : List ℕ) : Type 0 where
   pub size : length new ≡ length old
   pub kept : (n : ℕ) → IsMarked old n → IsMarked new n

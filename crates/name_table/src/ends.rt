@@ -1,13 +1,16 @@
+//! Marks on the ends of the texts in a table, by which most texts that are not in it are found
+//! absent at once.
+
 ghost use Rattle.std.specs.Prelude.{◌≡◌, ◌≤◌, ℕ, length, true, slice_index_or, IfOk};
 ghost use Rattle.name_table.specs.Ends.{ends_of, AreEnds};
 
 use crate::rows::Rows;
 use std::alloc::{AllocError, Global};
 
-/// How many sums of two bytes there are.
+/// The number of sums of two bytes.
 const SUMS: usize = 511;
 
-/// The sum of the first and the last byte of a text. Few texts share it.
+/// Returns the sum of the first and the last byte of a text. Few texts share it.
 fn ends_of(text: &[u8]) -> usize
     ensures { result ≡ ends_of text.now }
 {
@@ -18,7 +21,7 @@ fn ends_of(text: &[u8]) -> usize
     }
 }
 
-/// Whether the ends of a text are marked, or have no place among the marks.
+/// Returns whether the ends of a text are marked, or beyond the marks.
 pub fn has_ends(marks: &[bool], text: &[u8]) -> bool
     ensures { result ≡ slice_index_or marks.now (ends_of text.now) true }
 {
@@ -39,7 +42,7 @@ fn mark_ends(text: &[u8], marks: &mut Vec<bool>)
     }
 }
 
-/// Marks on the ends of the texts under which something is listed.
+/// Returns marks on the ends of the texts that have a row.
 pub fn ends(alloc: Global, rows: &Rows<'_>) -> Result<Vec<bool>, AllocError>
     ensures { IfOk result (λ marks. AreEnds rows.now marks.items) }
 {

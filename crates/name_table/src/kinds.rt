@@ -1,3 +1,5 @@
+//! The kind, level, compression and laziness of a message, by its attributes and its name.
+
 ghost use Rattle.std.specs.Prelude.{◌≡◌, Some};
 ghost use Rattle.std.specs.List.{list_any};
 ghost use Rattle.std.specs.Option.{option_copied};
@@ -7,17 +9,18 @@ ghost use Rattle.name_table.specs.Kinds.{attribute_named, listed_level, level_by
 use ipdl_base::{Compress, Level};
 use ipdl_syntax::{Attribute, MessageDecl, ProtocolDecl};
 
-/// What a message does beside being handled.
+/// The kind of a message.
 #[derive(Clone, Copy, Debug, PartialEq, Eq)]
 pub enum MessageKind {
+    /// It is only handled.
     Normal,
-    /// It makes an actor of a managed protocol.
+    /// It also makes an actor of a managed protocol.
     Constructor,
-    /// It lets its actor fall.
+    /// It also makes its actor fall.
     Destructor,
 }
 
-/// The level that a value lists, or `not`.
+/// Returns the level that a value names, or `not`.
 fn listed(value: &[u8]) -> Level
     ensures { result ≡ listed_level (Some value.now) }
 {
@@ -30,14 +33,14 @@ fn listed(value: &[u8]) -> Level
     }
 }
 
-/// The first attribute of this name.
+/// Returns the first attribute of this name, or `None`.
 fn named<'a>(attributes: &'a [Attribute], name: &[u8]) -> Option<&'a Attribute>
     ensures { option_copied result ≡ attribute_named name.now attributes.now }
 {
     attributes.iter().find(|a| a.name.as_slice() == name)
 }
 
-/// The level that the first attribute of this name lists, or `not`.
+/// Returns the level that the first attribute of this name gives, or `not`.
 fn level_of(attributes: &[Attribute], name: &[u8]) -> Level
     ensures { result ≡ level_by name.now attributes.now }
 {
@@ -50,21 +53,21 @@ fn level_of(attributes: &[Attribute], name: &[u8]) -> Level
     }
 }
 
-/// The level of a message, by its `Nested`.
+/// Returns the level of a message, by its `Nested`.
 pub fn message_level(message: &MessageDecl) -> Level
     ensures { result ≡ level_of_message message.now }
 {
     level_of(message.attributes.as_slice(), b"Nested")
 }
 
-/// The highest level that the messages of a protocol may have, by its `NestedUpTo`.
+/// Returns the highest level that the messages of a protocol may have, by its `NestedUpTo`.
 pub fn protocol_level(protocol: &ProtocolDecl) -> Level
     ensures { result ≡ level_of_protocol protocol.now }
 {
     level_of(protocol.attributes.as_slice(), b"NestedUpTo")
 }
 
-/// How a message replaces earlier ones, by its `Compress`.
+/// Returns how a message replaces earlier ones, by its `Compress`.
 pub fn compress_of(message: &MessageDecl) -> Compress
     ensures { result ≡ compress_of_message message.now }
 {
@@ -83,7 +86,7 @@ pub fn compress_of(message: &MessageDecl) -> Compress
     }
 }
 
-/// Whether a message may wait in its sender's outbox, by its `LazySend`.
+/// Returns whether a message may wait in its sender's outbox, by its `LazySend`.
 pub fn is_lazy(message: &MessageDecl) -> bool
     ensures { result ≡ is_lazy_message message.now }
 {
@@ -93,7 +96,7 @@ pub fn is_lazy(message: &MessageDecl) -> bool
     }
 }
 
-/// Whether a name is among the names of `manages`.
+/// Returns whether a name is among the names of `manages`.
 fn is_managed(protocol: &ProtocolDecl, name: &[u8]) -> bool
     ensures { result ≡ list_any (λ n. bytes_eq n.name name.now) protocol.now.manages }
 {
@@ -101,7 +104,7 @@ fn is_managed(protocol: &ProtocolDecl, name: &[u8]) -> bool
     managed.any(|n| n.name.as_slice() == name)
 }
 
-/// What a message of this protocol does. It takes time in proportion to the names of `manages`.
+/// Returns the kind of a message of this protocol. Takes time in proportion to the names of `manages`.
 pub fn kind_of(protocol: &ProtocolDecl, message: &MessageDecl) -> MessageKind
     ensures { IsKindOf protocol.now message.now result }
 {

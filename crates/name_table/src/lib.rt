@@ -1,5 +1,5 @@
-//! What every name in a program finds: which declarations a file sees, what a name in it finds among these, and the levels, kinds
-//! and attributes of declarations (docs/names.md).
+//! The table of names of a program: the declarations that a file sees, what a name in it finds
+//! among these, and the levels, kinds and attributes of declarations (docs/names.md).
 #![tactic(auto)]
 
 mod decl;

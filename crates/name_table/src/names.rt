@@ -1,3 +1,5 @@
+//! The table of what every name in a program finds.
+
 ghost use Rattle.std.specs.Prelude.{◌≡◌, ◌≢◌, ◌≤◌, ◌↔◌, ◌⊎◌, ℕ, List, Option, Some, None, length, map, option_map, IsTrue, IfOk, IfSome, IfNone};
 ghost use Rattle.std.specs.List.{Contains};
 ghost use Rattle.std.specs.Option.{option_copied};
@@ -19,7 +21,7 @@ use ipdl_syntax::{Entry, Program};
 use std::alloc::{AllocError, Global};
 use std::marker::Model;
 
-/// What every name in a program finds. Contracts see it as that program.
+/// The table of what every name in a program finds. Contracts see it as the program.
 #[derive(Drop)]
 pub struct Names<'p> {
     program: &'p [Entry],
@@ -47,7 +49,7 @@ impl<'p> Model for Names<'p> {
     ghost coded = { Prim.hlevel (codes, base.the_row.coded) };
 }
 
-/// The file that a declaration stands in, where it stands in one.
+/// Returns the file that has a declaration, or `None` for a declaration of no file.
 fn file_of(id: DeclId) -> Option<u32>
     ensures { result ≡ file_of id }
 {
@@ -60,7 +62,7 @@ fn file_of(id: DeclId) -> Option<u32>
     }
 }
 
-/// The full name of a declaration that a file has, where it has it.
+/// Returns the full name of a declaration that a file has, or `None`.
 fn full_name_in(entry: &Entry, id: DeclId) -> Option<&[u8]>
     ensures { option_map (λ full. full.now) result ≡ full_name_in entry.entry.now id }
 {
@@ -74,14 +76,14 @@ fn full_name_in(entry: &Entry, id: DeclId) -> Option<&[u8]>
     }
 }
 
-/// The full name of a declaration of a program, where it has it.
+/// Returns the full name of a declaration that a program has, or `None`.
 fn full_name(program: &[Entry], id: DeclId) -> Option<&[u8]>
     ensures { option_map (λ full. full.now) result ≡ full_name_of program.entry.now id }
 {
     full_name_in(program.get(file_of(id)? as usize)?, id)
 }
 
-/// Whether two are the same.
+/// Returns whether two declarations are the same.
 fn are_same(one: DeclId, other: DeclId) -> bool
     ensures { IsTrue result ↔ (one ≡ other) }
 {
@@ -89,7 +91,8 @@ fn are_same(one: DeclId, other: DeclId) -> bool
 }
 
 impl<'p> Names<'p> {
-    /// The names of a program, which may have any trees, in at most 4,096 files. The only error is want of memory.
+    /// Builds the table of a program of at most 4,096 files with any trees. Fails only if memory
+    /// runs out.
     pub fn build(alloc: Global, program: &'p Program) -> Result<Names<'p>, AllocError>
         requires few { length program.now ≤ 4096 }
         ensures { IfOk result (λ names. names ≡ program.now) }
@@ -105,7 +108,8 @@ impl<'p> Names<'p> {
         })
     }
 
-    /// What a text, with its argument where it has one, finds in a file, as a name in a type (docs/names.md). It takes no memory.
+    /// Returns what a text, with its argument if it has one, finds in a file as the name of a type
+    /// (docs/names.md). Takes no memory.
     pub fn find(&self, file: u32, text: &Name, argument: Option<&Name>) -> Found
         ensures { Counts (Finds self.now file text.now (option_copied argument.entry)) result }
     {
@@ -126,14 +130,15 @@ impl<'p> Names<'p> {
         }
     }
 
-    /// What a text finds in a file as the name of a manager or of a managed protocol: `Protocol`s alone. It takes no memory.
+    /// Returns what a text finds in a file as the name of a manager or of a managed protocol: only
+    /// protocols. Takes no memory.
     pub fn find_protocol(&self, file: u32, text: &Name) -> Found
         ensures { Counts (FindsAsProtocol self.now file text.now) result }
     {
         self.protocols(file, text.as_slice())
     }
 
-    /// What is listed under a text.
+    /// Returns the declarations that are listed under a text.
     fn row(&self, text: &[u8]) -> &[DeclId]
         ensures { result.now ≡ listed_under text.now (declared_from 0 self.now) }
     {
@@ -146,7 +151,7 @@ impl<'p> Names<'p> {
         }
     }
 
-    /// Whether a file is reached from another.
+    /// Returns whether a file is reached from another.
     fn is_reached(&self, file: u32, other: u32) -> bool
         ensures { IsTrue result ↔ Reaches self.now file other }
     {
@@ -156,7 +161,7 @@ impl<'p> Names<'p> {
         }
     }
 
-    /// Whether a file is a header.
+    /// Returns whether a file is a header.
     fn is_header(&self, file: u32) -> bool
         ensures { IsTrue result ↔ IsHeader self.now file }
     {
@@ -166,7 +171,7 @@ impl<'p> Names<'p> {
         }
     }
 
-    /// Whether a file sees a declaration, where there is such a declaration.
+    /// Returns whether a file sees a declaration of this number, if there is such a declaration.
     fn shows(&self, file: u32, id: DeclId) -> bool
         ensures { IsTrue result ↔ Shows self.now file id }
     {
@@ -180,14 +185,14 @@ impl<'p> Names<'p> {
         }
     }
 
-    /// Whether a file sees all that another declares.
+    /// Returns whether a file sees all declarations of another file.
     fn shows_all(&self, file: u32, other: u32) -> bool
         ensures { IsTrue result ↔ (Reaches self.now file other × IsFollowed self.now file other) }
     {
         self.is_reached(file, other) && (other == file || self.is_header(other))
     }
 
-    /// The full name under which a file sees a declaration, where it does.
+    /// Returns the full name under which a file sees a declaration, or `None` if it does not see it.
     fn seen_name(&self, file: u32, id: DeclId) -> Option<&[u8]>
         ensures some { IfSome result (λ full. Sees self.now file id full.now) }
         ensures none { IfNone result ((full : List ℕ) → ¬ Sees self.now file id full) }
@@ -199,7 +204,7 @@ impl<'p> Names<'p> {
         }
     }
 
-    /// How many protocols a text finds.
+    /// Returns the protocols that a text finds.
     fn protocols(&self, file: u32, text: &[u8]) -> Found
         ensures { Counts (FindsAsProtocol self.now file text.now) result }
     {
@@ -220,7 +225,7 @@ impl<'p> Names<'p> {
         found
     }
 
-    /// How many endpoints a text with this argument finds.
+    /// Returns the builtin types and endpoints that a text with this argument finds.
     fn endpoints(&self, file: u32, text: &[u8], inner: &[u8]) -> Found
         ensures { Counts (λ d. IsBuiltinOrEndpoint d × Finds self.now file text.now (Some inner.now) d) result }
     {
@@ -236,7 +241,7 @@ impl<'p> Names<'p> {
         }
     }
 
-    /// Whether a text finds this as a protocol.
+    /// Returns whether a text finds this declaration as a protocol.
     fn is_protocol(&self, file: u32, text: &[u8], id: DeclId) -> bool
         ensures { IsTrue result ↔ FindsAsProtocol self.now file text.now id }
     {
@@ -249,7 +254,7 @@ impl<'p> Names<'p> {
         }
     }
 
-    /// Whether a using of this full name names a builtin type in a file.
+    /// Returns whether a using of this full name names a builtin type in a file.
     fn names_builtin(&self, file: u32, full: &[u8]) -> bool
         ensures { IsTrue result ↔ NamesBuiltin self.now file full.now }
     {
@@ -265,7 +270,8 @@ impl<'p> Names<'p> {
         self.names_endpoint(file, full, true)
     }
 
-    /// Whether a full name is the word of an endpoint, or of a managed one, with an argument that finds a protocol.
+    /// Returns whether a full name is `Endpoint`, or `ManagedEndpoint`, with an argument that finds
+    /// a protocol.
     fn names_endpoint(&self, file: u32, full: &[u8], managed: bool) -> bool
         ensures { IsTrue result ↔ ((inner : List ℕ) × (p : ℕ)
             × (full.now ≡ whole_name (endpoint_word managed) (Some inner)) × FindsProtocol self.now file inner p) }
@@ -280,7 +286,8 @@ impl<'p> Names<'p> {
         }
     }
 
-    /// Whether a declaration of this full name is no using, or one that names no builtin type in a file.
+    /// Returns whether a declaration of this full name is not a using that names a builtin type in
+    /// a file.
     fn is_own(&self, file: u32, full: &[u8], id: DeclId) -> bool
         ensures { IsTrue result ↔ ((other place : ℕ) → id ≡ DeclId.Using other place → ¬ NamesBuiltin self.now file full.now) }
     {
@@ -290,7 +297,7 @@ impl<'p> Names<'p> {
         }
     }
 
-    /// Whether a text and its argument may find a declaration.
+    /// Returns whether a text and its argument may find a declaration.
     fn is_candidate(&self, file: u32, text: &[u8], argument: Option<&[u8]>, id: DeclId) -> bool
         ensures { IsTrue result ↔ IsCandidate self.now file text.now (option_map (λ inner. inner.now) argument.entry) id }
     {
@@ -300,7 +307,7 @@ impl<'p> Names<'p> {
         }
     }
 
-    /// Whether two that are declared are one.
+    /// Returns whether two declared ids count as one declaration.
     fn are_one(&self, one: DeclId, other: DeclId) -> bool
         ensures { IsTrue result ↔ AreOne self.now one other }
     {
@@ -312,7 +319,7 @@ impl<'p> Names<'p> {
         }
     }
 
-    /// How many a text and its argument find, where these are the builtin types and endpoints that they find.
+    /// Returns what a text and its argument find. `first` has the builtin types and endpoints among it.
     fn with_declared(&self, file: u32, text: &[u8], argument: Option<&[u8]>, first: Found) -> Found
         requires { Counts (λ d. IsBuiltinOrEndpoint d × Finds self.now file text.now (option_map (λ inner. inner.now) argument) d) first }
         ensures { Counts (Finds self.now file text.now (option_map (λ inner. inner.now) argument.entry)) result }
@@ -325,7 +332,7 @@ impl<'p> Names<'p> {
         }
     }
 
-    /// The same, where this is listed under the text.
+    /// Does the same if `row` is listed under the text.
     fn with_row(
         &self,
         file: u32,

@@ -1,3 +1,5 @@
+//! For each text, the declarations that are listed under it.
+
 ghost use Rattle.std.specs.Prelude.{◌≡◌, ◌≤◌, ◌∷◌, ◌++◌, [], map, ℕ, List, length, if◌then◌else◌, IfOk, OnOk};
 ghost use Rattle.std.specs.Str.{bytes_eq};
 ghost use Rattle.name_table.specs.declared.decl.DeclId.TheVariants as decl;
@@ -10,7 +12,7 @@ use ipdl_base::short_name;
 use ipdl_syntax::{Entry, StructDecl, UnionDecl, Using};
 use std::alloc::{AllocError, Global};
 
-/// For each text the declarations that are listed under it, in order.
+/// For each text, the declarations that are listed under it, in order.
 pub type Rows<'p> = IndexMap<&'p [u8], Vec<DeclId>>;
 
 /// Lists a declaration under a text.
@@ -33,7 +35,7 @@ fn list<'p>(
     Ok(())
 }
 
-/// Lists a declaration under the texts that its full name gives.
+/// Lists a declaration under each text that its full name gives.
 fn declare<'p>(
     alloc: Global,
     id: DeclId,
@@ -111,7 +113,7 @@ fn declare_unions<'p>(
     Ok(())
 }
 
-/// Lists what the file of this number declares.
+/// Lists the declarations of the file of this number.
 fn declare_file<'p>(
     alloc: Global,
     file: u32,
@@ -134,7 +136,7 @@ fn declare_file<'p>(
     Ok(())
 }
 
-/// For each text what is listed under it of all that the files of a program declare.
+/// Returns the rows of all declarations of the files of a program.
 pub fn rows<'p>(alloc: Global, program: &'p [Entry]) -> Result<Rows<'p>, AllocError>
     requires { length program.now ≤ 4096 }
     ensures { IfOk result (λ all. AreRows program.now all) }

@@ -1,3 +1,5 @@
+//! For each file of a program, the files that are reached from it.
+
 ghost use Rattle.std.specs.Prelude.{◌≡◌, ◌<◌, ◌≤◌, ◌↔◌, ◌⊎◌, ◌∷◌, [], ℕ, List, None, length, IfOk, IfSome, IsTrue, OnOk};
 ghost use Rattle.std.specs.List.{Contains};
 ghost use Rattle.ipdl_syntax.specs.declared.program.Entry.{Entry};
@@ -6,26 +8,26 @@ ghost use Rattle.name_table.specs.Marks.{AreFilesOf, AreMarksOf, AreSights, IsSi
 use ipdl_syntax::Entry;
 use std::alloc::{AllocError, Global};
 
-/// The most files that are kept as a list.
+/// The most files that are stored as a list.
 const FEW: usize = 8;
 
-/// What is kept of the files that are reached from one.
+/// The files that are reached from one file.
 #[derive(Drop)]
 pub enum Reach {
-    /// Their numbers.
+    /// The numbers of the reached files.
     Few(Vec<u32>),
-    /// Marks on them.
+    /// For each file of the program, whether it is reached.
     Many(Vec<bool>),
 }
 
-/// Whether a number is among others.
+/// Returns whether a number is among others.
 fn is_among(files: &[u32], file: u32) -> bool
     ensures { IsTrue result ↔ Contains files.now file }
 {
     files.contains(&file)
 }
 
-/// Whether a file is marked.
+/// Returns whether a file is marked.
 fn is_marked(marks: &[bool], file: usize) -> bool
     ensures { (program : List Entry) (from : ℕ) → AreMarksOf program from marks.now → IsTrue result ↔ Reaches program from file }
 {
@@ -36,7 +38,7 @@ fn is_marked(marks: &[bool], file: usize) -> bool
 }
 
 impl Reach {
-    /// Whether a file is reached.
+    /// Returns whether a file is reached.
     pub fn has(&self, file: u32) -> bool
         ensures { (program : List Entry) (from : ℕ) → IsSight program from self.now → IsTrue result ↔ Reaches program from file }
     {
@@ -47,7 +49,7 @@ impl Reach {
     }
 }
 
-/// Puts a file last, if it is one of so many and is not there yet.
+/// Appends a file if its number is below `count` and not in the list yet.
 fn join(file: u32, count: usize, files: &mut Vec<u32>) -> Result<(), AllocError>
     ensures { OnOk result (Joins count (file ∷ []) files.old.items files.new.items) }
 {
@@ -57,7 +59,7 @@ fn join(file: u32, count: usize, files: &mut Vec<u32>) -> Result<(), AllocError>
     Ok(())
 }
 
-/// Puts files last, each if it is one of so many and is not there yet.
+/// Appends files, each if its number is below `count` and not in the list yet.
 fn join_all(these: &[u32], count: usize, files: &mut Vec<u32>) -> Result<(), AllocError>
     ensures { OnOk result (Joins count these.now files.old.items files.new.items) }
 {
@@ -67,14 +69,15 @@ fn join_all(these: &[u32], count: usize, files: &mut Vec<u32>) -> Result<(), All
     Ok(())
 }
 
-/// Whether the includes of a file are followed: those of the file from which all are reached, and those of headers.
+/// Returns whether the includes of a file are followed: those of the file at which the search
+/// began, and those of headers.
 fn is_followed(entry: &Entry, file: usize, from: usize) -> bool
     ensures { IsTrue result ↔ ((file ≡ from) ⊎ (entry.now.unit.protocol ≡ None)) }
 {
     file == from || entry.unit.protocol.is_none()
 }
 
-/// The files that are reached from one of a program, where they are few.
+/// Returns the files that are reached from a file of a program, or `None` if they are more than a few.
 fn few(alloc: Global, program: &[Entry], from: usize) -> Result<Option<Vec<u32>>, AllocError>
     requires within { from < length program.now }
     requires few { length program.now ≤ 4096 }
@@ -97,7 +100,7 @@ fn few(alloc: Global, program: &[Entry], from: usize) -> Result<Option<Vec<u32>>
     Ok(None)
 }
 
-/// Marks a file, which joins the work where it is new. What is no file gets no mark.
+/// Marks a file, and adds it to the work if it had no mark. A number without a file gets no mark.
 fn mark(file: usize, marks: &mut Vec<bool>, work: &mut Vec<usize>) -> Result<(), AllocError>
     ensures { OnOk result (Marks (file ∷ []) marks.old.items work.old.items marks.new.items work.new.items) }
 {
@@ -108,7 +111,7 @@ fn mark(file: usize, marks: &mut Vec<bool>, work: &mut Vec<usize>) -> Result<(),
     Ok(())
 }
 
-/// Marks files.
+/// Marks each of these files.
 fn mark_all(files: &[u32], marks: &mut Vec<bool>, work: &mut Vec<usize>) -> Result<(), AllocError>
     ensures { OnOk result (Marks files.now marks.old.items work.old.items marks.new.items work.new.items) }
 {
@@ -118,7 +121,7 @@ fn mark_all(files: &[u32], marks: &mut Vec<bool>, work: &mut Vec<usize>) -> Resu
     Ok(())
 }
 
-/// Which files are reached from one of a program.
+/// Returns for each file whether it is reached from a file of a program.
 fn sight(alloc: Global, program: &[Entry], from: usize) -> Result<Vec<bool>, AllocError>
     requires { from < length program.now }
     ensures { IfOk result (λ marks. AreMarksOf program.now from marks.items) }
@@ -137,7 +140,7 @@ fn sight(alloc: Global, program: &[Entry], from: usize) -> Result<Vec<bool>, All
     Ok(marks)
 }
 
-/// What is kept of the files that are reached from one of a program.
+/// Returns the files that are reached from a file of a program.
 fn sight_of(alloc: Global, program: &[Entry], from: usize) -> Result<Reach, AllocError>
     requires within { from < length program.now }
     requires few { length program.now ≤ 4096 }
@@ -149,7 +152,7 @@ fn sight_of(alloc: Global, program: &[Entry], from: usize) -> Result<Reach, Allo
     }
 }
 
-/// For each file of a program, what is kept of the files that are reached from it.
+/// Returns for each file of a program the files that are reached from it.
 pub fn sights(alloc: Global, program: &[Entry]) -> Result<Vec<Reach>, AllocError>
     requires { length program.now ≤ 4096 }
     ensures { IfOk result (λ all. AreSights program.now all.items) }

@@ -1,3 +1,5 @@
+//! The strength of messages and protocols, which decides what converts to what.
+
 ghost use Rattle.std.specs.Prelude.{◌≡◌, ◌↔◌, IsTrue};
 ghost use Rattle.name_table.specs.Kinds.{level_number, strength_of_message, strength_of_protocol, Converts};
 
@@ -5,15 +7,18 @@ use crate::kinds::{message_level, protocol_level};
 use ipdl_base::{Level, Semantics};
 use ipdl_syntax::{MessageDecl, ProtocolDecl};
 
-/// The levels, from the least to the most, and the semantics of a message or a protocol.
+/// The strength of a message or a protocol: its levels, from the least to the most, and its semantics.
 #[derive(Clone, Copy, Debug, PartialEq, Eq)]
 pub struct Strength {
+    /// The least level.
     pub least: Level,
+    /// The highest level.
     pub most: Level,
+    /// The semantics.
     pub semantics: Semantics,
 }
 
-/// A level as a number: 0, 1 or 2.
+/// Returns a level as a number: 0, 1 or 2.
 fn number_of(level: Level) -> u8
     ensures { result ≡ level_number level }
 {
@@ -25,7 +30,7 @@ fn number_of(level: Level) -> u8
 }
 
 impl Strength {
-    /// That of a message: its own level alone.
+    /// Returns the strength of a message, which has its own level alone.
     pub fn of_message(message: &MessageDecl) -> Strength
         ensures { result ≡ strength_of_message message.now }
     {
@@ -37,7 +42,7 @@ impl Strength {
         }
     }
 
-    /// That of a protocol: all levels up to its own.
+    /// Returns the strength of a protocol, which has all levels up to its own.
     pub fn of_protocol(protocol: &ProtocolDecl) -> Strength
         ensures { result ≡ strength_of_protocol protocol.now }
     {
@@ -48,7 +53,7 @@ impl Strength {
         }
     }
 
-    /// Whether it converts to the other.
+    /// Returns whether this strength converts to the other.
     pub fn converts_to(self, other: Strength) -> bool
         ensures { IsTrue result ↔ Converts self other }
     {

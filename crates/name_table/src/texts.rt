@@ -1,3 +1,5 @@
+//! Texts of names: arguments, full names and words.
+
 ghost use Rattle.std.specs.Prelude.{◌≡◌, ◌==◌, ◌↔◌, ℕ, Bool, List, IsTrue, IfSome, IfNone, Some, option_map, position};
 ghost use Rattle.std.specs.List.{before_first};
 ghost use Rattle.ipdl_base.specs.declared.builtin.Builtin.{Builtin as BuiltinType};
@@ -6,14 +8,14 @@ ghost use Rattle.name_table.specs.Finds.{IsNameOf, IsNameOfBuiltin, endpoint_wor
 
 use ipdl_base::{Builtin, short_name};
 
-/// The first place of a `<` in a text.
+/// Returns the index of the first `<` in a text, or `None`.
 fn less_at(text: &[u8]) -> Option<usize>
     ensures { result ≡ position (λ b. b == 60) text.now }
 {
     text.iter().position(|b| *b == b'<')
 }
 
-/// What stands in a full name before the `<` of its argument: all of it where it has none.
+/// Returns the part of a full name before the `<` of its argument, or all of it if it has no argument.
 pub fn before_argument(full: &[u8]) -> &[u8]
     ensures { result.now ≡ before_first (λ b. b == 60) full.now }
 {
@@ -23,7 +25,8 @@ pub fn before_argument(full: &[u8]) -> &[u8]
     }
 }
 
-/// What stands in a text between a front and a `>` at its end.
+/// Returns the argument of a text that is this prefix with an argument between `<` and `>`, or
+/// `None` for any other text.
 pub fn inner_of<'t>(whole: &'t [u8], front: &[u8]) -> Option<&'t [u8]>
     ensures some { IfSome result (λ inner. whole.now ≡ whole_name front.now (Some inner.now)) }
     ensures none { IfNone result ((inner : List ℕ) → ¬ (whole.now ≡ whole_name front.now (Some inner))) }
@@ -34,7 +37,7 @@ pub fn inner_of<'t>(whole: &'t [u8], front: &[u8]) -> Option<&'t [u8]>
         .strip_suffix(b">")
 }
 
-/// Whether a full name is a text with this argument.
+/// Returns whether a full name is this text with this argument.
 fn is_whole(full: &[u8], text: &[u8], inner: &[u8]) -> bool
     ensures { IsTrue result ↔ (full.now ≡ whole_name text.now (Some inner.now)) }
 {
@@ -44,7 +47,7 @@ fn is_whole(full: &[u8], text: &[u8], inner: &[u8]) -> bool
     }
 }
 
-/// Whether a text and its argument name what has this full name.
+/// Returns whether a text and its argument name a declaration of this full name.
 pub fn is_name_of(text: &[u8], argument: Option<&[u8]>, full: &[u8]) -> bool
     ensures { IsTrue result ↔ IsNameOf text.now (option_map (λ inner. inner.now) argument.entry) full.now }
 {
@@ -54,7 +57,7 @@ pub fn is_name_of(text: &[u8], argument: Option<&[u8]>, full: &[u8]) -> bool
     }
 }
 
-/// The builtin type that a text names by its full name or its word.
+/// Returns the builtin type that a text names by its full name or its word, or `None`.
 pub fn builtin_of(text: &[u8]) -> Option<Builtin>
     ensures some { IfSome result (λ found. IsNameOfBuiltin found text.now) }
     ensures none { IfNone result ((other : BuiltinType) → ¬ IsNameOfBuiltin other text.now) }
@@ -70,7 +73,8 @@ pub fn builtin_of(text: &[u8]) -> Option<Builtin>
     }
 }
 
-/// Whether a text is the word of an endpoint, and whether of a managed one.
+/// Returns whether an endpoint is managed, by its word, or `None` if the text is the word of no
+/// endpoint.
 pub fn endpoint_of(text: &[u8]) -> Option<bool>
     ensures some { IfSome result (λ managed. text.now ≡ endpoint_word managed) }
     ensures none { IfNone result ((managed : Bool) → ¬ (text.now ≡ endpoint_word managed)) }
@@ -84,7 +88,7 @@ pub fn endpoint_of(text: &[u8]) -> Option<bool>
     }
 }
 
-/// The word of an endpoint, or of a managed one.
+/// Returns the word of an endpoint, or that of a managed one.
 pub fn word_of(managed: bool) -> &'static [u8]
     ensures { result.now ≡ endpoint_word managed }
 {

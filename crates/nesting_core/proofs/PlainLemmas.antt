@@ -44,10 +44,10 @@ pub is_inside_sync-plain : (f : StackFrame) → is_inside_sync (plain_frame f) �
 is_inside_sync-plain (Dispatch head) = refl
 is_inside_sync-plain (Wait head answer) = refl
 
--- the head of the first frame, or of what is found behind it
+-- the head of the first frame, or of what is found after it
 first_or : (b : Bool) (f : StackFrame) (there here : Option StackFrame) → option_map head_of there ≡ option_map head_of here → option_map head_of (cond b (Some (plain_frame f)) there) ≡ option_map head_of (cond b (Some f) here)
-first_or true f there here behind = ap Some (head_of-plain f)
-first_or false f there here behind = behind
+first_or true f there here following = ap Some (head_of-plain f)
+first_or false f there here following = following
 
 -- the innermost frame that passes a test that looks at no box
 pub innermost-plain : (test : StackFrame → Bool) → ((f : StackFrame) → test (plain_frame f) ≡ test f) → (fs : List StackFrame) → innermost test (map plain_frame fs) ≡ innermost test fs

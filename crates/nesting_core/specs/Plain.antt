@@ -5,8 +5,8 @@ use Rattle.nesting_core.specs.declared.frame.Answer.{Answer}
 use Rattle.nesting_core.specs.declared.frame.Answer.TheVariants as answer
 use Rattle.nesting_core.specs.declared.frame.StackFrame.{StackFrame}
 use Rattle.nesting_core.specs.declared.frame.StackFrame.TheVariants as frame
-use Rattle.nesting_core.specs.declared.frame.Popped.{Popped}
-use Rattle.nesting_core.specs.declared.frame.Popped.TheVariants as popped
+use Rattle.nesting_core.specs.declared.frame.PoppedFrame.{PoppedFrame}
+use Rattle.nesting_core.specs.declared.frame.PoppedFrame.TheVariants as popped
 
 -- an answer with its boxes there
 abbrev pub plain_answer : Answer → Answer
@@ -19,6 +19,6 @@ plain_frame (frame.Dispatch head) = frame.Dispatch head
 plain_frame (frame.Wait head answer) = frame.Wait head (option_map plain_answer answer)
 
 -- what came off a stack, with its boxes there
-abbrev pub plain_popped : Popped → Popped
+abbrev pub plain_popped : PoppedFrame → PoppedFrame
 plain_popped (popped.Dispatch head) = popped.Dispatch head
 plain_popped (popped.Wait head answer) = popped.Wait head (plain_answer answer)

@@ -4,13 +4,13 @@ use Rattle.nesting_core.specs.declared.frame.StackFrame.TheVariants.{Dispatch, W
 use Rattle.nesting_core.specs.declared.frame.StackTop.{StackTop}
 use Rattle.nesting_core.specs.declared.frame.StackTop.TheVariants as top
 
--- every dispatch stands on fewer than 64 frames, and every wait, answered or not, on fewer than 63
+-- below every dispatch are fewer than 64 frames, and below every wait, answered or not, fewer than 63
 abbrev pub FitsRoom : List StackFrame → Type 0
 FitsRoom [] = Unit {0}
 FitsRoom (Dispatch head ∷ below) = (length below < 64) × FitsRoom below
 FitsRoom (Wait head answer ∷ below) = (length below < 63) × FitsRoom below
 
--- unless a dispatch is on top of so many frames, there is room for one
+-- unless a dispatch is on top of that many frames, there is room for one
 abbrev pub LeavesRoom : StackTop → ℕ → Type 0
 LeavesRoom top.Empty frames = frames < 64
 LeavesRoom (top.Dispatch head) frames = Unit {0}

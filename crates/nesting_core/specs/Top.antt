@@ -1,8 +1,8 @@
 use Rattle.std.specs.Prelude.{List, [], ◌∷◌, Option, Some, None}
 use Rattle.nesting_core.specs.declared.frame.StackFrame.{StackFrame}
 use Rattle.nesting_core.specs.declared.frame.StackFrame.TheVariants.{Dispatch, Wait}
-use Rattle.nesting_core.specs.declared.frame.Popped.{Popped}
-use Rattle.nesting_core.specs.declared.frame.Popped.TheVariants as popped
+use Rattle.nesting_core.specs.declared.frame.PoppedFrame.{PoppedFrame}
+use Rattle.nesting_core.specs.declared.frame.PoppedFrame.TheVariants as popped
 use Rattle.nesting_core.specs.declared.frame.StackTop.{StackTop}
 use Rattle.nesting_core.specs.declared.frame.StackTop.TheVariants as top
 
@@ -14,7 +14,7 @@ top_of (Wait head None ∷ below) = top.Unanswered head
 top_of (Wait head (Some answer) ∷ below) = top.Answered head
 
 -- the frame that may come off: the top one, unless it is a wait whose answer has not come
-abbrev pub popped_of : List StackFrame → Option Popped
+abbrev pub popped_of : List StackFrame → Option PoppedFrame
 popped_of [] = None
 popped_of (Dispatch head ∷ below) = Some (popped.Dispatch head)
 popped_of (Wait head None ∷ below) = None

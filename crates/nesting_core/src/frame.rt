@@ -1,9 +1,10 @@
+//! The frames of a stack, and what goes onto it and comes off it.
 ghost use Rattle.std.specs.Prelude.{◌≡◌};
 ghost use Rattle.nesting_core.specs.Frames.{head_of, is_dispatch, is_inside_sync, is_sync_dispatch, is_unanswered, is_wait};
 
 use ipdl_base::{Level, Reason, Values};
 
-/// What a stack keeps of a message that is handled or whose reply is waited for.
+/// What a stack keeps of a message that is handled or whose reply is awaited.
 #[derive(Clone, Copy, Debug, PartialEq, Eq)]
 pub struct Head {
     /// Whether the sender of the message waits for its reply.
@@ -22,7 +23,7 @@ pub struct SendHead {
     pub level: Level,
 }
 
-/// What ends a wait: the values of the reply, or why there are none.
+/// The end of a wait: the values of the reply, or the reason why there are none.
 #[derive(Drop)]
 pub enum Answer {
     Ok(Values),
@@ -30,16 +31,16 @@ pub enum Answer {
 }
 
 /// A frame of a stack: a message that is handled, or a wait for the reply to one, with its answer
-/// once that has come.
+/// once it has come.
 #[derive(Drop)]
 pub enum StackFrame {
     Dispatch(Head),
     Wait(Head, Option<Answer>),
 }
 
-/// A frame that came off a stack; a wait comes with its answer.
+/// A frame that was popped; a wait has its answer.
 #[derive(Drop)]
-pub enum Popped {
+pub enum PoppedFrame {
     Dispatch(Head),
     Wait(Head, Answer),
 }

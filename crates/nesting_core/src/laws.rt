@@ -1,3 +1,4 @@
+//! Laws that hold for every stack.
 ghost use Rattle.nesting_core.specs.Laws.{PlainFormsCommute, RefusesByFirstCause};
 
 /// The law of plain forms: no definition on frames looks at where a box of an answer lies.

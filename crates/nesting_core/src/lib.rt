@@ -8,6 +8,6 @@ mod laws;
 mod refusals;
 mod stack;
 
-pub use frame::{Answer, Head, Popped, SendHead, StackFrame, StackTop};
+pub use frame::{Answer, Head, PoppedFrame, SendHead, StackFrame, StackTop};
 pub use laws::{plain_forms_commute, refuses_by_first_cause};
 pub use stack::Stack;

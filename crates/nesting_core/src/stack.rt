@@ -1,3 +1,4 @@
+//! The stack of one end.
 ghost use Rattle.std.specs.Prelude.{◌≡◌, ◌↔◌, ◌<◌, ◌≤◌, [], ◌∷◌, length, take, reverse, IsTrue, IfNone};
 ghost use Rattle.std.specs.Bool.{OnTrue, OnFalse};
 ghost use Rattle.nesting_core.specs.Answers.{awaited, with_answer};
@@ -10,7 +11,7 @@ ghost use Rattle.ipdl_base.specs.declared.kinds.Reason.TheVariants.{ChannelClose
 ghost use Rattle.nesting_core.specs.declared.frame.Answer.TheVariants.{Fault};
 ghost use Rattle.nesting_core.specs.declared.frame.StackFrame.TheVariants.{Dispatch, Wait};
 
-use crate::frame::{Answer, Head, Popped, SendHead, StackFrame, StackTop};
+use crate::frame::{Answer, Head, PoppedFrame, SendHead, StackFrame, StackTop};
 use crate::innermost::{has_wait, innermost_inside_sync, innermost_unanswered};
 use crate::refusals::{is_inside_cpow, is_level_too_low, is_nested_in_normal};
 use ipdl_base::{Level, Reason, SendRefusal, Side, defers_request};
@@ -20,10 +21,11 @@ use std::{array, mem};
 /// The number of frames that a stack has room for.
 const ROOM: usize = 64;
 
-/// The number of frames from which on no sync message is sent: its wait leaves room for a dispatch.
+/// The number of frames from which no further sync message is sent: its wait leaves room for a
+/// dispatch.
 const SEND_LIMIT: usize = 63;
 
-/// What stands in a place of the array that holds no frame of the stack.
+/// The content of an array entry that is no frame of the stack.
 const VACANT: StackFrame = StackFrame::Dispatch(Head {
     sync: false,
     level: Level::Not,
@@ -31,10 +33,10 @@ const VACANT: StackFrame = StackFrame::Dispatch(Head {
     transaction: 0,
 });
 
-/// The frames of an end, which contracts see as their list, the innermost first.
+/// The frames of an end. Contracts see them as a list, the innermost first.
 #[derive(Drop)]
 pub struct Stack {
-    /// The frames, the outermost first, and vacant places behind them.
+    /// The frames, the outermost first, followed by vacant entries.
     frames: [StackFrame; ROOM],
     len: usize,
 }
@@ -56,7 +58,7 @@ impl Model for Stack {
 }
 
 impl Stack {
-    /// The stack without a frame.
+    /// Returns the stack without frames.
     pub fn new() -> Stack
         ensures { result ≡ [] }
     {
@@ -64,8 +66,8 @@ impl Stack {
         Stack { frames, len: 0 }
     }
 
-    /// The number of frames, at most 64. Each dispatch stands on fewer than 64 others, each wait on
-    /// fewer than 63.
+    /// Returns the number of frames, at most 64. There are fewer than 64 frames below each
+    /// dispatch, and fewer than 63 below each wait.
     pub fn len(&self) -> usize
         ensures count { result ≡ length self.now }
         ensures bound { length self.now ≤ 64 }
@@ -74,7 +76,7 @@ impl Stack {
         self.outward().len()
     }
 
-    /// The frame on top. Unless that is a dispatch, there is room for one.
+    /// Returns the frame on top. Unless it is a dispatch, there is room for one.
     pub fn top(&self) -> StackTop
         ensures frame { result ≡ top_of self.now }
         ensures room { LeavesRoom result (length self.now) }
@@ -82,29 +84,29 @@ impl Stack {
         top(self.outward())
     }
 
-    /// Whether any call of this end is still under way, be its answer there or not.
+    /// Whether the stack has a wait, answered or not.
     pub fn has_wait(&self) -> bool
         ensures { result ≡ has_wait self.now }
     {
         has_wait(self.outward())
     }
 
-    /// The number of the innermost wait whose answer has not come; `None` where there is none.
+    /// Returns the number of the innermost wait whose answer has not come, or `None`.
     pub fn awaited(&self) -> Option<i32>
         ensures { result ≡ awaited self.now }
     {
         innermost_unanswered(self.outward()).map(|head| head.seq)
     }
 
-    /// The transaction of a sync message that is sent now with this number.
+    /// Returns the transaction of a sync message that is sent now with this number.
     pub fn transaction(&self, seq: i32) -> i32
         ensures { result ≡ transaction_of self.now seq }
     {
         self.inner_transaction().unwrap_or(seq)
     }
 
-    /// Whether an end on this side defers a request that arrived. Only an end with a wait on top whose
-    /// answer has not come defers any.
+    /// Whether an end on this side defers a request that arrived. An end defers only if a wait is
+    /// on top whose answer has not come.
     pub fn defers(&self, side: Side, head: &Head) -> bool
         ensures { result ≡ defers side self.now head.now }
     {
@@ -124,8 +126,8 @@ impl Stack {
         }
     }
 
-    /// Why a send is refused: the first of `NestedInNormal`, `InsideCpow`, `LevelTooLow` and
-    /// `TooDeep` that holds. An async send is never refused.
+    /// Returns why a send is refused: the first of `NestedInNormal`, `InsideCpow`, `LevelTooLow`
+    /// and `TooDeep` that holds. An async send is never refused.
     pub fn refusal(&self, head: &SendHead) -> Option<SendRefusal>
         ensures { result ≡ refusal_of self.now head.now }
     {
@@ -143,7 +145,7 @@ impl Stack {
         }
     }
 
-    /// Puts a dispatch on top.
+    /// Pushes a dispatch.
     pub fn push_dispatch(&mut self, head: Head)
         requires { length self.old < 64 }
         ensures { self.new ≡ Dispatch head ∷ self.old }
@@ -152,7 +154,7 @@ impl Stack {
         self.len += 1;
     }
 
-    /// Puts a wait on top, whose answer has not come.
+    /// Pushes a wait whose answer has not come.
     pub fn push_wait(&mut self, head: Head)
         requires { length self.old < 63 }
         ensures { self.new ≡ Wait head None ∷ self.old }
@@ -161,8 +163,8 @@ impl Stack {
         self.len += 1;
     }
 
-    /// Stores an answer in the innermost wait whose answer has not come. False where that wait is not
-    /// there or has another number; then nothing changes.
+    /// Stores an answer in the innermost wait whose answer has not come. Returns false, and changes
+    /// nothing, if there is no such wait or it has another number.
     pub fn answer(&mut self, seq: i32, answer: Answer) -> bool
         ensures found { IsTrue result ↔ (awaited self.old ≡ Some seq) }
         ensures stored { OnTrue result (self.new ≡ with_answer answer self.old) }
@@ -175,8 +177,8 @@ impl Stack {
         true
     }
 
-    /// Answers the innermost wait whose answer has not come by the fault `ChannelClosed`, and gives
-    /// its number; `None` where there is none, and then nothing changes.
+    /// Answers the innermost wait whose answer has not come by the fault `ChannelClosed`, and
+    /// returns its number. Returns `None`, and changes nothing, if there is no such wait.
     pub fn fail_next(&mut self) -> Option<i32>
         ensures number { result ≡ awaited self.old }
         ensures failed { self.new ≡ with_answer (Fault ChannelClosed) self.old }
@@ -187,30 +189,30 @@ impl Stack {
         seq
     }
 
-    /// Takes the top frame off; `None` where there is none or it is a wait whose answer has not come,
-    /// and then nothing changes.
-    pub fn pop(&mut self) -> Option<Popped>
+    /// Pops the top frame. Returns `None`, and changes nothing, if there is no frame or it is a
+    /// wait whose answer has not come.
+    pub fn pop(&mut self) -> Option<PoppedFrame>
         ensures popped { result ≡ popped_of self.old }
         ensures left { self.new ≡ after_pop self.old }
     {
         match self.top() {
             StackTop::Empty | StackTop::Unanswered(_) => None,
             StackTop::Dispatch(_) | StackTop::Answered(_) => match self.take_top() {
-                StackFrame::Dispatch(head) => Some(Popped::Dispatch(head)),
-                StackFrame::Wait(head, Some(answer)) => Some(Popped::Wait(head, answer)),
+                StackFrame::Dispatch(head) => Some(PoppedFrame::Dispatch(head)),
+                StackFrame::Wait(head, Some(answer)) => Some(PoppedFrame::Wait(head, answer)),
                 StackFrame::Wait(_, None) => unreachable!(),
             },
         }
     }
 
-    /// Takes all frames off.
+    /// Removes all frames.
     pub fn clear(&mut self)
         ensures { self.new ≡ [] }
     {
         *self = Stack::new();
     }
 
-    /// The frames, the outermost first.
+    /// Returns the frames, the outermost first.
     fn outward(&self) -> &[StackFrame]
         ensures frames { reverse result.now ≡ self.now }
         ensures bound { length result.now ≤ 64 }
@@ -232,7 +234,7 @@ impl Stack {
         store(&mut self.frames, self.len, answer);
     }
 
-    /// Takes the top frame off.
+    /// Removes and returns the top frame.
     fn take_top(&mut self) -> StackFrame
         requires { 0 < length self.old }
         ensures { self.old ≡ result ∷ self.new }
@@ -242,7 +244,7 @@ impl Stack {
     }
 }
 
-/// The last frame, by its head.
+/// Returns the last frame, by its head.
 fn top(frames: &[StackFrame]) -> StackTop
     ensures { result ≡ top_of (reverse frames.now) }
 {

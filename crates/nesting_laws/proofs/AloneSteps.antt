@@ -10,7 +10,7 @@ use Rattle.nesting_laws.specs.Alone.{IsAlone, ReplyThenFarewell, RequestsThenFar
 use Rattle.nesting_laws.specs.Calls.{Call, SyncEnd, SyncFrame, SyncPacket, dispatch, farewell, reply, request, sync_end, wait, with_packets}
 use Rattle.nesting_laws.specs.Chains.{Exchange, queued, replied, requested, running}
 use Rattle.nesting_laws.specs.Laws.{AloneStays}
-use Rattle.nesting_laws.specs.Nested.{AreNested, IsBeside, at_hand, beside_child, beside_parent, crossed, crossed_back, crossed_behind, idle, in_arrived, in_link, of_child, of_parent, on_top, on_way, overtaken, to_arrive, to_take}
+use Rattle.nesting_laws.specs.Nested.{AreNested, IsBeside, at_hand, beside_child, beside_parent, crossed, crossed_back, crossed_after, idle, in_arrived, in_link, of_child, of_parent, on_top, on_way, overtaken, to_arrive, to_take}
 use Rattle.nesting_laws.specs.Steps.{DefersCall, IsBelowCpow, IsInserted, IsTransactionOf, Step, calls, calls_inside, drops, here, reply_arrives, request_arrives, returns, takes, there}
 
 -- Steps
@@ -36,13 +36,13 @@ alone_step (reply_comes h (reply_first l)) reply_arrives = no_reply_comes l
 alone_step {side} (reply_comes {w} {below} h l) (takes {q} i may) = not-taken side w q below (all-member (DefersCall side w) h i) may
 alone_step {side} (reply_comes {w} {below} h l) (drops {q} i may) = not-taken side w q below (all-member (DefersCall side w) h i) may
 
--- The end of the other
+-- The last packet of the other end
 
--- a request among those is deferred under what is on top
-abbrev IsBehindTop : Side → Call → List SyncFrame → Type 0
-IsBehindTop side x [] = Unit {0}
-IsBehindTop side x (wait w ∷ below) = DefersCall side w x
-IsBehindTop side x (dispatch d ∷ below) = Unit {0}
+-- a request among those is deferred under the wait on top
+abbrev IsAfterTop : Side → Call → List SyncFrame → Type 0
+IsAfterTop side x [] = Unit {0}
+IsAfterTop side x (wait w ∷ below) = DefersCall side w x
+IsAfterTop side x (dispatch d ∷ below) = Unit {0}
 
 not-last : {A : Type 0} (xs : List SyncPacket) → RequestsThenFarewell (farewell ∷ xs ++ farewell ∷ []) → A
 not-last [] l = elim l [ ]
@@ -63,7 +63,7 @@ all-inserted : {A : Type 0} (P : A → Type 0) {x : A} {others all : List A} →
 all-inserted P here p h = (p, h)
 all-inserted P (there i) p h = (h.0, all-inserted P i p h.1)
 
-alone-beside : {side : Side} {x : Call} {stack : List SyncFrame} {others all : List Call} {packets link : List SyncPacket} → IsBehindTop side x stack → IsBeside x others packets all link → IsAlone side (sync_end stack others (packets ++ farewell ∷ [])) → IsAlone side (sync_end stack all (link ++ farewell ∷ []))
+alone-beside : {side : Side} {x : Call} {stack : List SyncFrame} {others all : List Call} {packets link : List SyncPacket} → IsAfterTop side x stack → IsBeside x others packets all link → IsAlone side (sync_end stack others (packets ++ farewell ∷ [])) → IsAlone side (sync_end stack all (link ++ farewell ∷ []))
 alone-beside h (in_arrived i) (no_reply_comes l) = no_reply_comes l
 alone-beside h (in_link i) (no_reply_comes l) = no_reply_comes (farewell-inserted i l)
 alone-beside {side} h (in_arrived i) (reply_comes {w} k l) = reply_comes (all-inserted (DefersCall side w) i h k) l
@@ -81,23 +81,23 @@ other-alone (queued chain) = no_reply_comes only_farewell
 other-alone (running chain) = no_reply_comes only_farewell
 other-alone (replied chain) = no_reply_comes only_farewell
 
-behind-inside : (t : ℤ) (x : Call) (stack : List SyncFrame) → IsInside t stack × IsTransactionOf Parent t → IsBelowCpow x.level → IsTransactionOf Child x.transaction → IsBehindTop Parent x stack
-behind-inside t x [] h d c = tt
-behind-inside t x (wait w ∷ below) h d c = beside-deferred t x w h.0 h.1 d c
-behind-inside t x (dispatch q ∷ below) h d c = tt
+following-inside : (t : ℤ) (x : Call) (stack : List SyncFrame) → IsInside t stack × IsTransactionOf Parent t → IsBelowCpow x.level → IsTransactionOf Child x.transaction → IsAfterTop Parent x stack
+following-inside t x [] h d c = tt
+following-inside t x (wait w ∷ below) h d c = beside-deferred t x w h.0 h.1 d c
+following-inside t x (dispatch q ∷ below) h d c = tt
 
 parent_alone : {p c : SyncEnd} → AreNested p c → IsAlone Parent (with_packets p (farewell ∷ []))
 parent_alone idle = no_reply_comes only_farewell
 parent_alone (of_parent exchange) = caller-alone exchange
 parent_alone (of_child exchange) = other-alone exchange
-parent_alone (beside_parent {t} {x} {stack} h d exchange w) = alone-beside (behind-inside t x stack (caller-inside exchange) d h.transaction) w (caller-alone exchange)
-parent_alone (beside_child {t} {x} {stack} h d exchange w) = alone-beside (behind-inside t x stack (other-inside exchange) d h.transaction) w (other-alone exchange)
+parent_alone (beside_parent {t} {x} {stack} h d exchange w) = alone-beside (following-inside t x stack (caller-inside exchange) d h.transaction) w (caller-alone exchange)
+parent_alone (beside_child {t} {x} {stack} h d exchange w) = alone-beside (following-inside t x stack (other-inside exchange) d h.transaction) w (other-alone exchange)
 parent_alone (overtaken h k) = no_reply_comes only_farewell
 parent_alone (crossed h k is to_arrive comes) = no_reply_comes (request_first only_farewell)
 parent_alone (crossed h k is to_take comes) = no_reply_comes only_farewell
 parent_alone (crossed h k is on_top comes) = no_reply_comes only_farewell
 parent_alone (crossed_back h k is w) = no_reply_comes only_farewell
-parent_alone (crossed_behind h k is) = reply_comes tt (reply_first (request_first only_farewell))
+parent_alone (crossed_after h k is) = reply_comes tt (reply_first (request_first only_farewell))
 
 child_alone : {p c : SyncEnd} → AreNested p c → IsAlone Child (with_packets c (farewell ∷ []))
 child_alone idle = no_reply_comes only_farewell
@@ -109,7 +109,7 @@ child_alone (overtaken h k) = reply_comes tt (reply_first (request_first only_fa
 child_alone (crossed h k is serves on_way) = no_reply_comes (request_first only_farewell)
 child_alone (crossed h k is serves at_hand) = no_reply_comes only_farewell
 child_alone (crossed_back {x} {q} h k is w) = alone-beside (cpow-deferred x q is h.level) w (reply_comes tt (reply_first only_farewell))
-child_alone (crossed_behind h k is) = no_reply_comes only_farewell
+child_alone (crossed_after h k is) = no_reply_comes only_farewell
 
 pub alone_stays : AloneStays
 alone_stays = record { parent = λ p c n. parent_alone n; child = λ p c n. child_alone n; stays = λ side h new sent a step. alone_step a step }

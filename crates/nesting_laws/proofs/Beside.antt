@@ -1,4 +1,4 @@
--- A call that stands beside others at an end: a step of the end is one of the others, or has to do with it.
+-- A call beside others at an end: a step of the end is about one of the others, or about this call.
 use Rattle.std.proofs.Common.{◌≡◌, List, [], ◌∷◌, ◌++◌, refl, subst}
 use Rattle.ipdl_base.specs.declared.kinds.Side.{Side}
 use Rattle.nesting_laws.specs.Calls.{Call, SyncEnd, SyncFrame, SyncPacket, dispatch, reply, reply_of, sync_end}
@@ -13,7 +13,7 @@ pub inserted-last : {A : Type 0} {x : A} (others : List A) → IsInserted x othe
 inserted-last [] = here
 inserted-last (y ∷ others) = there (inserted-last others)
 
--- Two places in a list: they are one, or each element is left in the list without the other.
+-- Two places in a list: they are the same, or each element stays in the list without the other.
 data TwoPlaces {A : Type 0} (x y : A) (without_x without_y : List A) : Type 0 where
   one_place : y ≡ x → TwoPlaces x y without_x without_y
   two_places : {rest : List A} → IsInserted y rest without_x → IsInserted x rest without_y → TwoPlaces x y without_x without_y
@@ -32,8 +32,8 @@ pub beside-append : {x : Call} {others all : List Call} {packets link : List Syn
 beside-append sent (in_arrived i) = in_arrived i
 beside-append sent (in_link i) = in_link (inserted-append sent i)
 
--- What a step of an end is that has the call x beside others: x arrives, or the end may take x, or the step is possible
--- without x and leaves x beside what is left.
+-- What a step of an end with the call x beside others is: x arrives, or the end may take x, or the step is possible
+-- without x and leaves x beside the remaining calls.
 pub data StepBeside (x : Call) (side : Side) (stack : List SyncFrame) (others : List Call) (packets : List SyncPacket) : SyncEnd → List SyncPacket → Type 0 where
   arrives : {all : List Call} {link : List SyncPacket} → IsBeside x others packets all link → StepBeside x side stack others packets (sync_end stack all link) []
   may_take : {next : SyncEnd} {sent : List SyncPacket} → MayTake side stack x → StepBeside x side stack others packets next sent

@@ -22,7 +22,7 @@ abbrev pub IsBaseOf : Side → List SyncFrame → Type 0
 IsBaseOf Parent base = Unit {0}
 IsBaseOf Child base = base ≡ []
 
--- What becomes of a chain by a step of the end that waits: it ends, or goes back to the call before.
+-- The result of a step of the waiting end for a chain: the chain ends, or goes back to the call before.
 pub data AfterCaller (base : List SyncFrame) (t : ℤ) (s : Side) : SyncEnd → List SyncPacket → SyncEnd → Type 0 where
   ended : IsBaseOf s base → AfterCaller base t s (sync_end [] [] []) [] (sync_end base [] [])
   back : {o : Side} {next theirs : SyncEnd} → Faces s o → Exchange base t o theirs next → AfterCaller base t s next [] theirs
@@ -82,8 +82,8 @@ allowed {q} new down (by_child a b c) h k = allows_child q.level new.level h k
 allowed {q} new up (inside f chain c d e g) h k = allows_parent q.level new.level d k
 allowed {q} new down (inside f chain c d e g) h k = allows_child q.level new.level h k
 
--- What becomes of a chain by a step of the other end: the last call is at another place, or that end makes a call inside it,
--- or beside it.
+-- The result of a step of the other end for a chain: the last call is at another place, or that end makes a call
+-- inside it, or beside it.
 pub data AfterOther (base : List SyncFrame) (t : ℤ) (s o : Side) (a : SyncEnd) : SyncEnd → SyncEnd → List SyncPacket → Type 0 where
   stays : {b next : SyncEnd} {sent : List SyncPacket} → Exchange base t s (with_packets a sent) next → AfterOther base t s o a b next sent
   called : {b next : SyncEnd} {sent : List SyncPacket} → Exchange base t o next (with_packets a sent) → AfterOther base t s o a b next sent

@@ -1,4 +1,4 @@
--- What a link carries says whether the end that sends is open.
+-- What a link carries shows whether the end that sends is open.
 use Rattle.std.proofs.Common.{◌≡◌, ℤ, List, [], ◌∷◌}
 use Rattle.std.specs.List.{AllByRecursion}
 use Rattle.ipdl_base.specs.declared.kinds.Side.{Side}
@@ -6,7 +6,7 @@ use Rattle.nesting_laws.specs.Alone.{IsAlone, no_reply_comes, reply_comes}
 use Rattle.nesting_laws.specs.Calls.{Call, SyncFrame, SyncPacket, request, IsNoFarewell, SyncEnd, sync_end}
 use Rattle.nesting_laws.specs.Chains.{Exchange, requested, queued, running, replied}
 use Rattle.nesting_laws.specs.Laws.{LinksTellOfEnds}
-use Rattle.nesting_laws.specs.Nested.{IsBeside, in_arrived, in_link, AreNested, idle, of_parent, of_child, beside_parent, beside_child, overtaken, crossed, crossed_back, crossed_behind, on_way, at_hand, to_arrive, to_take, on_top}
+use Rattle.nesting_laws.specs.Nested.{IsBeside, in_arrived, in_link, AreNested, idle, of_parent, of_child, beside_parent, beside_child, overtaken, crossed, crossed_back, crossed_after, on_way, at_hand, to_arrive, to_take, on_top}
 use Rattle.nesting_laws.specs.Steps.{IsInserted, here, there}
 
 caller-no_farewell : {base : List SyncFrame} {t : ℤ} {s : Side} {stack : List SyncFrame} {others : List Call} {link : List SyncPacket} {b : SyncEnd} → Exchange base t s (sync_end stack others link) b → AllByRecursion IsNoFarewell link
@@ -40,7 +40,7 @@ parent-no_farewell (crossed h k is to_arrive comes) = (tt, tt)
 parent-no_farewell (crossed h k is to_take comes) = tt
 parent-no_farewell (crossed h k is on_top comes) = tt
 parent-no_farewell (crossed_back h k is w) = tt
-parent-no_farewell (crossed_behind h k is) = (tt, (tt, tt))
+parent-no_farewell (crossed_after h k is) = (tt, (tt, tt))
 
 child-no_farewell : {stack : List SyncFrame} {others : List Call} {link : List SyncPacket} {p : SyncEnd} → AreNested p (sync_end stack others link) → AllByRecursion IsNoFarewell link
 child-no_farewell idle = tt
@@ -52,7 +52,7 @@ child-no_farewell (overtaken h k) = (tt, (tt, tt))
 child-no_farewell (crossed h k is serves on_way) = (tt, tt)
 child-no_farewell (crossed h k is serves at_hand) = tt
 child-no_farewell (crossed_back h k is w) = beside-no_farewell w (tt, tt)
-child-no_farewell (crossed_behind h k is) = tt
+child-no_farewell (crossed_after h k is) = tt
 
 -- an end that is alone has something on its link
 alone-some : (side : Side) (stack : List SyncFrame) (others : List Call) (link : List SyncPacket) → IsAlone side (sync_end stack others link) → link ≡ [] → ⊥

@@ -8,7 +8,7 @@ use Rattle.ipdl_base.specs.Deferral.{defers_request}
 use Rattle.nesting_laws.specs.Calls.{Call, SyncEnd, SyncFrame, SyncPacket, sync_end, wait}
 use Rattle.nesting_laws.specs.Chains.{Chain, Exchange, by_child, inside, queued, replied, requested, running}
 use Rattle.nesting_laws.specs.Laws.{OneGivesWay}
-use Rattle.nesting_laws.specs.Nested.{AreNested, beside_child, beside_parent, crossed, crossed_back, crossed_behind, of_child, of_parent, overtaken, to_arrive, to_take}
+use Rattle.nesting_laws.specs.Nested.{AreNested, beside_child, beside_parent, crossed, crossed_back, crossed_after, of_child, of_parent, overtaken, to_arrive, to_take}
 
 -- the parent's wait on top has level inside_sync
 
@@ -36,7 +36,7 @@ parent-level (overtaken h k) = h.level
 parent-level (crossed h k is to_arrive comes) = h.level
 parent-level (crossed h k is to_take comes) = h.level
 parent-level (crossed_back h k is w) = h.level
-parent-level (crossed_behind h k is) = h.level
+parent-level (crossed_after h k is) = h.level
 
 gives_way : (w v : Level) (m n : ℤ) → w ≡ InsideSync → defers_request Parent w (Some m) true v n ≡ true → defers_request Child v (Some n) true w m ≡ true → ⊥
 gives_way InsideSync Not m n e h k = cc

@@ -1,4 +1,4 @@
--- Every step of an open end keeps how both wait.
+-- Every step of an open end keeps the shape in which both ends wait.
 use Rattle.std.proofs.Common.{◌≡◌, ℤ, List, [], ◌∷◌, refl, sym, subst}
 use Rattle.ipdl_base.specs.declared.kinds.Level.{Level}
 use Rattle.ipdl_base.specs.declared.kinds.Level.TheVariants.{Not, InsideSync, InsideCpow}
@@ -10,10 +10,10 @@ use Rattle.nesting_laws.proofs.Exchanges.{AfterCaller, AfterOther, IsInside, bac
 use Rattle.nesting_laws.specs.Calls.{Call, SyncEnd, SyncFrame, SyncPacket, reply, reply_of, request, sync_end, wait, with_packets}
 use Rattle.nesting_laws.specs.Chains.{Exchange, by_child, by_parent, down, queued, replied, requested, running, up}
 use Rattle.nesting_laws.specs.Laws.{NestingStays}
-use Rattle.nesting_laws.specs.Nested.{AreNested, IsBeside, IsComing, IsFirstCall, IsServing, at_hand, beside_child, beside_parent, crossed, crossed_back, crossed_behind, idle, in_arrived, in_link, of_child, of_parent, on_top, on_way, overtaken, to_arrive, to_take}
+use Rattle.nesting_laws.specs.Nested.{AreNested, IsBeside, IsComing, IsFirstCall, IsServing, at_hand, beside_child, beside_parent, crossed, crossed_back, crossed_after, idle, in_arrived, in_link, of_child, of_parent, on_top, on_way, overtaken, to_arrive, to_take}
 use Rattle.nesting_laws.specs.Steps.{Allows, IsBelowCpow, IsTransactionOf, Step, calls, calls_inside, drops, here, reply_arrives, request_arrives, returns, takes, there}
 
--- a chain that goes on between its ends where nothing is sent
+-- a chain that continues between its ends where nothing is sent
 nothing_sent : {p c : SyncEnd} → AreNested p c → AreNested p (with_packets c [])
 nothing_sent {p} {c} n = subst (AreNested p) (sym (with-nothing c)) n
 
@@ -34,7 +34,7 @@ child_calls_below x d of (replied (by_parent {q} a b c)) = beside_parent (record
 child_calls_cpow : (x : Call) {t : ℤ} {p : SyncEnd} {others : List Call} {link : List SyncPacket} → x.level ≡ InsideCpow → IsTransactionOf Child x.transaction → Exchange [] t Parent p (sync_end [] others link) → AreNested (with_packets p (request x ∷ [])) (sync_end (wait x ∷ []) others link)
 child_calls_cpow x is of (requested (by_parent a b c)) = crossed (record { level = a; transaction = subst (IsTransactionOf Parent) (sym b) c }) (record { level = tt; transaction = of }) is to_arrive on_way
 child_calls_cpow x is of (queued (by_parent a b c)) = crossed (record { level = a; transaction = subst (IsTransactionOf Parent) (sym b) c }) (record { level = tt; transaction = of }) is to_arrive at_hand
-child_calls_cpow x is of (replied (by_parent a b c)) = crossed_behind (record { level = a; transaction = subst (IsTransactionOf Parent) (sym b) c }) (record { level = tt; transaction = of }) is
+child_calls_cpow x is of (replied (by_parent a b c)) = crossed_after (record { level = a; transaction = subst (IsTransactionOf Parent) (sym b) c }) (record { level = tt; transaction = of }) is
 
 child_calls : (x : Call) (level : Level) {t : ℤ} {p : SyncEnd} {others : List Call} {link : List SyncPacket} → x.level ≡ level → IsTransactionOf Child x.transaction → Exchange [] t Parent p (sync_end [] others link) → AreNested (with_packets p (request x ∷ [])) (sync_end (wait x ∷ []) others link)
 child_calls x Not is of exchange = child_calls_below x (below_cpow x Not is tt) of exchange
@@ -55,7 +55,7 @@ parent_calls q h (replied (by_child {q = x} a b c)) = overtaken h (record { leve
 
 -- Steps of the parent
 
--- what its own chain becomes
+-- the result for its own chain
 parent_returned : {t : ℤ} {next c : SyncEnd} {sent : List SyncPacket} → AfterCaller [] t Parent next sent c → AreNested next (with_packets c sent)
 parent_returned (ended e) = idle
 parent_returned (back down exchange) = nothing_sent (of_child exchange)
@@ -98,7 +98,7 @@ parent_beside_child h d inside_it of exchange (arrives w) = nothing_sent (beside
 parent_beside_child {t} {x} {stack} h d inside_it of exchange (may_take may) = beside-not_taken t x stack inside_it of d h.transaction may
 parent_beside_child h d inside_it of exchange (without step w) = parent_went_beside h d exchange (other-step tt down exchange step) w
 
--- what holds of the parent's stack in a chain that it has begun, with a call of the child beside
+-- a property of the parent's stack in a chain that it has begun, with a call of the child beside
 pub caller-inside : {x : Call} {t : ℤ} {stack : List SyncFrame} {others : List Call} {packets : List SyncPacket} {c : SyncEnd} → Exchange (wait x ∷ []) t Parent (sync_end stack others packets) c → IsInside t stack × IsTransactionOf Parent t
 caller-inside (requested chain) = (parent-inside chain, of-parent chain)
 caller-inside (queued chain) = (parent-inside chain, of-parent chain)
@@ -111,7 +111,7 @@ other-inside (queued chain) = (parent-inside_too chain, of-parent chain)
 other-inside (running chain) = (tt, of-parent chain)
 other-inside (replied chain) = (parent-inside_too chain, of-parent chain)
 
--- the answer to the child's call of level inside_cpow goes behind the parent's call, or beside it
+-- the answer to the child's call of level inside_cpow follows the parent's call, or is beside it
 answered_beside : {x q : Call} {others : List Call} {link : List SyncPacket} → IsFirstCall Parent q → IsFirstCall Child x → x.level ≡ InsideCpow → IsComing q others link → AreNested (sync_end (wait q ∷ []) [] []) (with_packets (sync_end (wait x ∷ []) others link) (reply (reply_of x) ∷ []))
 answered_beside h k is on_way = crossed_back h k is (in_link here)
 answered_beside h k is at_hand = crossed_back h k is (in_arrived here)
@@ -147,9 +147,9 @@ parent_step (overtaken h k) (drops i may) = none-inserted i
 parent_step (crossed h k is serves comes) step = parent_serves h k is serves comes step
 parent_step (crossed_back h k is w) (takes i may) = none-inserted i
 parent_step (crossed_back h k is w) (drops i may) = none-inserted i
-parent_step (crossed_behind h k is) reply_arrives = of_child (requested (by_child refl refl k.transaction))
-parent_step (crossed_behind h k is) (takes i may) = none-inserted i
-parent_step (crossed_behind h k is) (drops i may) = none-inserted i
+parent_step (crossed_after h k is) reply_arrives = of_child (requested (by_child refl refl k.transaction))
+parent_step (crossed_after h k is) (takes i may) = none-inserted i
+parent_step (crossed_after h k is) (drops i may) = none-inserted i
 
 -- Steps of the child
 
@@ -209,8 +209,8 @@ child_step (overtaken h k) (takes i may) = none-inserted i
 child_step (overtaken h k) (drops i may) = none-inserted i
 child_step (crossed h k is serves comes) step = child_comes h k is serves comes step
 child_step (crossed_back h k is w) step = child_waits h k is w step
-child_step (crossed_behind h k is) (takes i may) = none-inserted i
-child_step (crossed_behind h k is) (drops i may) = none-inserted i
+child_step (crossed_after h k is) (takes i may) = none-inserted i
+child_step (crossed_after h k is) (drops i may) = none-inserted i
 
 pub nesting_stays : NestingStays
 nesting_stays = record { parent = λ p c next sent n step. parent_step n step; child = λ p c next sent n step. child_step n step }

@@ -1,4 +1,4 @@
--- While somebody waits, something can happen by itself.
+-- While an end waits, something can happen by itself.
 use Rattle.nesting_laws.proofs.Exchanges.{chain-transaction}
 use Rattle.std.proofs.Common.{◌≡◌, ℤ, true, false, List, [], ◌∷◌, Some, not, refl, sym, ap, subst, ◌∙◌}
 use Rattle.std.specs.Ordering.{int_eq}
@@ -12,7 +12,7 @@ use Rattle.nesting_laws.specs.Alone.{IsAlone, no_reply_comes, reply_comes, only_
 use Rattle.nesting_laws.specs.Calls.{Call, SyncEnd, SyncFrame, SyncPacket, sync_end, wait}
 use Rattle.nesting_laws.specs.Chains.{Chain, Exchange, Faces, by_child, by_parent, down, inside, queued, replied, requested, running, up}
 use Rattle.nesting_laws.specs.Laws.{NobodyIsStuck}
-use Rattle.nesting_laws.specs.Nested.{AreNested, IsBeside, beside_child, beside_parent, crossed, crossed_back, crossed_behind, idle, in_arrived, in_link, of_child, of_parent, on_top, overtaken, to_arrive, to_take}
+use Rattle.nesting_laws.specs.Nested.{AreNested, IsBeside, beside_child, beside_parent, crossed, crossed_back, crossed_after, idle, in_arrived, in_link, of_child, of_parent, on_top, overtaken, to_arrive, to_take}
 use Rattle.nesting_laws.specs.Progress.{CanMove, IsNotStuck, at_child, at_parent, delivers, nobody, returns, takes}
 use Rattle.nesting_laws.specs.Steps.{IsAboveNot, IsBelowCpow, MayTake, here, there}
 
@@ -41,7 +41,7 @@ takes_cpow o w InsideCpow m n e = refl
 takes_cpow o w Not m n e = cc
 takes_cpow o w InsideSync m n e = cc
 
--- the end to which the last call of a chain goes may take it, where it may take the first
+-- the end to which the last call of a chain goes may take it, if it may take the first
 may_take : {base : List SyncFrame} {t : ℤ} {s o : Side} {q : Call} {below theirs : List SyncFrame} → ((q : Call) → q.level ≡ InsideSync → MayTake Child base q) → Faces o s → Chain base t s q below theirs → MayTake o theirs q
 may_take {q} first up (by_parent a b c) = first q a
 may_take {q} first down (by_child a b c) = subst (λ (stack : List SyncFrame). MayTake Parent stack q) (sym a) tt
@@ -106,7 +106,7 @@ moves (crossed h k is to_arrive comes) = at_parent delivers
 moves (crossed {x} {q} h k is to_take comes) = at_parent (takes here (takes_cpow Parent q.level x.level q.transaction x.transaction is))
 moves (crossed h k is on_top comes) = at_parent returns
 moves (crossed_back h k is w) = at_child (link_moves w)
-moves (crossed_behind h k is) = at_parent delivers
+moves (crossed_after h k is) = at_parent delivers
 
 -- a packet is on the link toward an end that is alone
 alone_moves : {side : Side} {e : SyncEnd} → IsAlone side e → CanMove side e

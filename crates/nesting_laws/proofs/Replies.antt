@@ -5,7 +5,7 @@ use Rattle.nesting_laws.specs.Alone.{IsAlone, ReplyThenFarewell, no_reply_comes,
 use Rattle.nesting_laws.specs.Calls.{Call, ReplyHead, SyncEnd, SyncFrame, SyncPacket, reply, reply_of, sync_end}
 use Rattle.nesting_laws.specs.Chains.{Exchange, replied}
 use Rattle.nesting_laws.specs.Laws.{RepliesAreForTop}
-use Rattle.nesting_laws.specs.Nested.{AreNested, IsBeside, beside_child, beside_parent, crossed, crossed_back, crossed_behind, in_arrived, in_link, of_child, of_parent, overtaken}
+use Rattle.nesting_laws.specs.Nested.{AreNested, IsBeside, beside_child, beside_parent, crossed, crossed_back, crossed_after, in_arrived, in_link, of_child, of_parent, overtaken}
 use Rattle.nesting_laws.specs.Progress.{IsForTop}
 use Rattle.nesting_laws.specs.Steps.{there}
 
@@ -29,7 +29,7 @@ parent_top (of_child exchange) = other-top exchange
 parent_top (beside_parent h d exchange w) = caller-top_beside w exchange
 parent_top (beside_child h d exchange w) = other-top_beside w exchange
 parent_top (crossed h k is serves comes) = elim serves [ ]
-parent_top (crossed_behind h k is) = refl
+parent_top (crossed_after h k is) = refl
 
 beside-first : {q : Call} {n r : ReplyHead} {others : List Call} {link : List SyncPacket} → IsBeside q [] (reply n ∷ []) others (reply r ∷ link) → n ≡ r
 beside-first (in_arrived i) = refl

@@ -64,7 +64,7 @@ parent_defers = refl
 child_takes : Step Child (sync_end (wait (x1 InsideSync) ∷ []) (q1 ∷ []) []) (sync_end (dispatch q1 ∷ wait (x1 InsideSync) ∷ []) [] []) []
 child_takes = takes here refl
 
--- so not both of them defer the other's
+-- so the two calls do not defer each other
 child_does_not_defer : DefersCall Child (x1 InsideSync) q1 → ⊥
 child_does_not_defer h = one_gives_way q1 (x1 InsideSync) [] [] [] [] (request (x1 InsideSync) ∷ []) (request q1 ∷ []) at_once parent_defers h
 
@@ -95,7 +95,7 @@ child_defers = refl
 parent_takes : Step Parent (sync_end (wait q1 ∷ []) (x1 InsideCpow ∷ []) []) (sync_end (dispatch (x1 InsideCpow) ∷ wait q1 ∷ []) [] []) []
 parent_takes = takes here refl
 
--- and while it handles it, it may not call
+-- while the parent handles the call, it may not call
 no_call_inside_cpow : {next : SyncEnd} {q : Call} → Step Parent (sync_end (dispatch (x1 InsideCpow) ∷ wait q1 ∷ []) [] []) next (request q ∷ []) → ⊥
 no_call_inside_cpow (calls_inside h k e) = k
 

@@ -1,4 +1,4 @@
--- How an open end waits whose other end has closed or died.
+-- How an open end waits when its other end has closed or died.
 use Rattle.std.specs.Prelude.{List, [], ◌∷◌}
 use Rattle.std.specs.List.{AllByRecursion}
 use Rattle.ipdl_base.specs.declared.kinds.Side.{Side}
@@ -10,13 +10,13 @@ pub data RequestsThenFarewell : List SyncPacket → Type 0 where
   only_farewell : RequestsThenFarewell (farewell ∷ [])
   request_first : {q : Call} {rest : List SyncPacket} → RequestsThenFarewell rest → RequestsThenFarewell (request q ∷ rest)
 
--- The reply to w among requests, with the last packet behind them. Those ahead of the reply are deferred under w.
+-- The reply to w among requests, followed by the last packet. The wait for w defers the requests ahead of the reply.
 pub data ReplyThenFarewell (side : Side) (w : Call) : List SyncPacket → Type 0 where
   reply_first : {rest : List SyncPacket} → RequestsThenFarewell rest → ReplyThenFarewell side w (reply (reply_of w) ∷ rest)
   request_ahead : {q : Call} {rest : List SyncPacket} → DefersCall side w q → ReplyThenFarewell side w rest → ReplyThenFarewell side w (request q ∷ rest)
 
--- An open end whose other end sends nothing more. No reply comes; or the one that comes is for the wait on top, which
--- defers all requests that come before it.
+-- An open end whose other end sends nothing more. Either no reply comes, or the reply that comes is for the wait on
+-- top, which defers all requests that come before it.
 pub data IsAlone (side : Side) : SyncEnd → Type 0 where
   no_reply_comes : {stack : List SyncFrame} {arrived : List Call} {link : List SyncPacket} → RequestsThenFarewell link → IsAlone side (sync_end stack arrived link)
   reply_comes : {w : Call} {below : List SyncFrame} {arrived : List Call} {link : List SyncPacket} → AllByRecursion (DefersCall side w) arrived → ReplyThenFarewell side w link → IsAlone side (sync_end (wait w ∷ below) arrived link)

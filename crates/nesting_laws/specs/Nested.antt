@@ -7,8 +7,8 @@ use Rattle.nesting_laws.specs.Calls.{Call, reply_of, SyncFrame, wait, dispatch, 
 use Rattle.nesting_laws.specs.Steps.{HasLevelOf, IsTransactionOf, IsBelowCpow, IsInserted}
 use Rattle.nesting_laws.specs.Chains.{Exchange}
 
--- A call stands beside others at an end: it has arrived among them, or its request is on the link among them. The first
--- lists, `others` and `packets`, are those without it.
+-- A call is beside others at an end: it has arrived among them, or its request is on the link among them. The first
+-- lists, `others` and `packets`, are those without the call.
 pub data IsBeside (x : Call) : List Call → List SyncPacket → List Call → List SyncPacket → Type 0 where
   in_arrived : {others arrived : List Call} {link : List SyncPacket} → IsInserted x others arrived → IsBeside x others link arrived link
   in_link : {arrived : List Call} {packets link : List SyncPacket} → IsInserted (request x) packets link → IsBeside x arrived packets arrived link
@@ -29,13 +29,13 @@ pub data IsServing (x q : Call) : SyncEnd → Type 0 where
   to_take : IsServing x q (sync_end (wait q ∷ []) (x ∷ []) [])
   on_top : IsServing x q (sync_end (dispatch x ∷ wait q ∷ []) [] [])
 
--- The parent and the child, both open, in one of nine shapes. Nobody waits (`idle`). There is one chain, for whose last
--- call the parent waits (`of_parent`) or the child (`of_child`). Or the parent has begun a chain and the child has made a
--- call at the same time, the stray, for which it waits below the chain. A stray of a level below inside_cpow lies at the
--- parent, which defers it until the chain has ended (`beside_parent`, `beside_child`), or the parent has answered it
--- before it called (`overtaken`). At a stray of level inside_cpow the chain is one call, which the child defers while the
--- parent serves the stray: that comes or is handled (`crossed`), its reply is on the link back (`crossed_back`), or its
--- request is behind the reply to the parent's call (`crossed_behind`).
+-- The parent and the child, both open, in one of nine shapes. No end waits (`idle`). There is one chain, and the
+-- parent (`of_parent`) or the child (`of_child`) waits for its last call. Or the parent has begun a chain and the
+-- child has made a call at the same time, the stray, for which it waits below the chain. A stray of a level below
+-- inside_cpow is at the parent, which defers it until the chain has ended (`beside_parent`, `beside_child`), or the
+-- parent has answered it before its own call (`overtaken`). With a stray of level inside_cpow the chain is one call,
+-- which the child defers while the parent serves the stray: the stray comes or is handled (`crossed`), its reply is
+-- on the link back (`crossed_back`), or its request follows the reply to the parent's call (`crossed_behind`).
 pub data AreNested : SyncEnd → SyncEnd → Type 0 where
   idle : AreNested (sync_end [] [] []) (sync_end [] [] [])
   of_parent : {t : ℤ} {p c : SyncEnd} → Exchange [] t Parent p c → AreNested p c
@@ -45,4 +45,4 @@ pub data AreNested : SyncEnd → SyncEnd → Type 0 where
   overtaken : {x q : Call} → IsFirstCall Parent q → IsFirstCall Child x → AreNested (sync_end (wait q ∷ []) [] []) (sync_end (wait x ∷ []) [] (reply (reply_of x) ∷ request q ∷ []))
   crossed : {x q : Call} {p : SyncEnd} {arrived : List Call} {link : List SyncPacket} → IsFirstCall Parent q → IsFirstCall Child x → x.level ≡ InsideCpow → IsServing x q p → IsComing q arrived link → AreNested p (sync_end (wait x ∷ []) arrived link)
   crossed_back : {x q : Call} {arrived : List Call} {link : List SyncPacket} → IsFirstCall Parent q → IsFirstCall Child x → x.level ≡ InsideCpow → IsBeside q [] (reply (reply_of x) ∷ []) arrived link → AreNested (sync_end (wait q ∷ []) [] []) (sync_end (wait x ∷ []) arrived link)
-  crossed_behind : {x q : Call} → IsFirstCall Parent q → IsFirstCall Child x → x.level ≡ InsideCpow → AreNested (sync_end (wait q ∷ []) [] (reply (reply_of q) ∷ request x ∷ [])) (sync_end (wait x ∷ []) [] [])
+  crossed_after : {x q : Call} → IsFirstCall Parent q → IsFirstCall Child x → x.level ≡ InsideCpow → AreNested (sync_end (wait q ∷ []) [] (reply (reply_of q) ∷ request x ∷ [])) (sync_end (wait x ∷ []) [] [])

@@ -5,7 +5,7 @@ use Rattle.ipdl_base.specs.declared.kinds.Side.TheVariants as sides
 use Rattle.nesting_laws.specs.Calls.{Call, ReplyHead, reply_of, SyncFrame, wait, dispatch, SyncPacket, SyncEnd, sync_end}
 use Rattle.nesting_laws.specs.Steps.{MayTake, IsInserted}
 
--- a reply is the one to the call for which the frame on top waits
+-- a reply answers the call for which the frame on top waits
 abbrev pub IsForTop : List SyncFrame → ReplyHead → Type 0
 IsForTop [] r = ⊥
 IsForTop (wait w ∷ below) r = reply_of w ≡ r
@@ -18,7 +18,7 @@ pub data CanMove (side : Side) : SyncEnd → Type 0 where
   returns : {d : Call} {below : List SyncFrame} {arrived : List Call} {link : List SyncPacket} → CanMove side (sync_end (dispatch d ∷ below) arrived link)
   takes : {q : Call} {stack : List SyncFrame} {rest arrived : List Call} {link : List SyncPacket} → IsInserted q rest arrived → MayTake side stack q → CanMove side (sync_end stack arrived link)
 
--- Nobody waits, or something can happen by itself at the parent or at the child.
+-- No end waits, or something can happen by itself at the parent or at the child.
 pub data IsNotStuck : SyncEnd → SyncEnd → Type 0 where
   nobody : IsNotStuck (sync_end [] [] []) (sync_end [] [] [])
   at_parent : {p c : SyncEnd} → CanMove sides.Parent p → IsNotStuck p c

@@ -7,7 +7,7 @@ use Rattle.ipdl_base.specs.declared.kinds.Side.TheVariants.{Parent, Child}
 use Rattle.ipdl_base.specs.Deferral.{defers_request}
 use Rattle.nesting_laws.specs.Calls.{Call, reply_of, ReplyHead, SyncFrame, wait, dispatch, SyncPacket, request, reply, SyncEnd, sync_end}
 
--- a side sends calls of this level: the parent none but those of level inside_sync
+-- a side sends calls of this level: the parent only those of level inside_sync
 abbrev pub HasLevelOf : Side → Call → Type 0
 HasLevelOf Parent q = q.level ≡ InsideSync
 HasLevelOf Child q = Unit {0}
@@ -41,11 +41,11 @@ Allows InsideCpow level = ⊥
 abbrev pub defers_call : Side → Call → Call → Bool
 defers_call side w q = defers_request side w.level (Some w.transaction) true q.level q.transaction
 
--- it defers it
+-- an end that waits for the first call defers the second
 abbrev pub DefersCall : Side → Call → Call → Type 0
 DefersCall side w q = defers_call side w q ≡ true
 
--- an end with this stack may take the call: it waits for nothing, or does not defer it
+-- an end with this stack may take the call: it has no wait, or its wait does not defer the call
 abbrev pub MayTake : Side → List SyncFrame → Call → Type 0
 MayTake side [] q = Unit {0}
 MayTake side (wait w ∷ below) q = defers_call side w q ≡ false
@@ -57,14 +57,14 @@ without_wait [] = []
 without_wait (wait q ∷ below) = below
 without_wait (dispatch q ∷ below) = dispatch q ∷ without_wait below
 
--- The second list is the first with x put in at some place.
+-- The second list is the first with x inserted at some place.
 pub data IsInserted {A : Type 0} (x : A) : List A → List A → Type 0 where
   here : {xs : List A} → IsInserted x xs (x ∷ xs)
   there : {y : A} {xs ys : List A} → IsInserted x xs ys → IsInserted x (y ∷ xs) (y ∷ ys)
 
--- A step of an open end, and what it sends: a call that begins a transaction, or one while another is handled; a
--- request that arrives, or a reply, which ends the innermost wait; a request that is taken, or dropped with a reply; a
--- handler that returns.
+-- A step of an open end, and what it sends: a call that begins a transaction, or a call while another is handled; a
+-- request that arrives, or a reply, which ends the innermost wait; a request that is taken, or dropped with a reply;
+-- a handler that returns.
 pub data Step (side : Side) : SyncEnd → SyncEnd → List SyncPacket → Type 0 where
   calls : {q : Call} {arrived : List Call} {link : List SyncPacket} → HasLevelOf side q → IsTransactionOf side q.transaction → Step side (sync_end [] arrived link) (sync_end (wait q ∷ []) arrived link) (request q ∷ [])
   calls_inside : {q d : Call} {below : List SyncFrame} {arrived : List Call} {link : List SyncPacket} → HasLevelOf side q → Allows d.level q.level → (d.level ≡ InsideSync → q.transaction ≡ d.transaction) → Step side (sync_end (dispatch d ∷ below) arrived link) (sync_end (wait q ∷ dispatch d ∷ below) arrived link) (request q ∷ [])

@@ -1,5 +1,8 @@
-//! Why two ends that call each other never wait for one another for ever, told of sync calls alone: what an end may do
-//! with them, the shapes that two ends can be in, and the laws of these (docs/nesting.md). No function that runs.
+//! Why two ends that call each other never wait for one another for ever, on sync calls alone: what an end
+//! may do with
+//! them, the shapes that two ends can be in, and the laws of these shapes (docs/nesting.md). No function of
+//! this crate
+//! computes anything.
 #![tactic(auto)]
 
 mod laws;

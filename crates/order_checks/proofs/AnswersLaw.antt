@@ -18,7 +18,8 @@ use Rattle.history_reading.specs.Reading.{other_of, read}
 use Rattle.history_reading.specs.SentPacket.{Request, SentPacket, request_of}
 use Rattle.law_statements.specs.Packets.{delivered, sent, settled}
 use Rattle.law_statements.specs.Readable.{Readable}
-use Rattle.law_statements.specs.Said.{last_event, line_of, other_end, said_by}
+use Rattle.ipdl_base.specs.Sides.{other as other_end}
+use Rattle.law_statements.specs.Said.{last_event, line_of, said_by}
 use Rattle.law_statements.proofs.Along.{each-from, each-to}
 use Rattle.law_statements.proofs.Deciding.{both, found, itself, recast, untrue}
 use Rattle.law_statements.proofs.Ends.{other-read}
@@ -78,14 +79,14 @@ may schema end before n = recast (may_answer schema end (as_said schema end befo
 -- Replaced requests, and late replies
 
 abbrev IsReplaced : Schema → Side → List Line → List Line → ℤ → Type 0
-IsReplaced schema end before behind n =
-    (asked : Request) × (request_of (sent schema (said_by (other_end end) before)) n ≡ Some asked) × HasEffects end (fault_due asked.wants n reason.ResolverDestroyed) behind
+IsReplaced schema end before following n =
+    (asked : Request) × (request_of (sent schema (said_by (other_end end) before)) n ≡ Some asked) × HasEffects end (fault_due asked.wants n reason.ResolverDestroyed) following
 
-replaced : (schema : Schema) (end : Side) (before behind : List Line) (n : ℤ) → HasEffects end (effects_next behind) behind → Decides (is_replaced_right (other_as_said schema end before) n (effects_next behind)) (IsReplaced schema end before behind n)
-replaced schema end before behind n prints =
-    found (request_of (sent schema (said_by (other_end end) before)) n) (λ (r : Request). is_fault_due r.wants n reason.ResolverDestroyed (effects_next behind)) (λ (r : Request). HasEffects end (fault_due r.wants n reason.ResolverDestroyed) behind) (λ r.
-    recast (is_fault_due r.wants n reason.ResolverDestroyed (effects_next behind)) (fault-is-due r.wants n reason.ResolverDestroyed (effects_next behind))
-    (λ e. subst (λ (ws : List What). HasEffects end ws behind) e prints) (λ h. next-are end (fault_due r.wants n reason.ResolverDestroyed) behind h))
+replaced : (schema : Schema) (end : Side) (before following : List Line) (n : ℤ) → HasEffects end (effects_next following) following → Decides (is_replaced_right (other_as_said schema end before) n (effects_next following)) (IsReplaced schema end before following n)
+replaced schema end before following n prints =
+    found (request_of (sent schema (said_by (other_end end) before)) n) (λ (r : Request). is_fault_due r.wants n reason.ResolverDestroyed (effects_next following)) (λ (r : Request). HasEffects end (fault_due r.wants n reason.ResolverDestroyed) following) (λ r.
+    recast (is_fault_due r.wants n reason.ResolverDestroyed (effects_next following)) (fault-is-due r.wants n reason.ResolverDestroyed (effects_next following))
+    (λ e. subst (λ (ws : List What). HasEffects end ws following) e prints) (λ h. next-are end (fault_due r.wants n reason.ResolverDestroyed) following h))
 
 late : (schema : Schema) (end : Side) (before : List Line) (n : ℤ)
     → Decides (is_late_right end (as_said schema end before) before n) (IsTrue (has (settled (said_by end before)) n) → Contains (said_by end before) (what.Rejected n reason.ActorDestroyed))
@@ -98,22 +99,22 @@ late schema end before n = by (has (settled (said_by end before)) n)
 -- Each place
 
 abbrev PassesAt : Schema → Side → What → List Line → List Line → Type 0
-PassesAt schema end w before behind = answers_line schema end (as_said schema end before) (other_as_said schema end before) (answered (said_by end before)) before w behind ≡ true
+PassesAt schema end w before following = answers_line schema end (as_said schema end before) (other_as_said schema end before) (answered (said_by end before)) before w following ≡ true
 
-test-is : (schema : Schema) (lines : List Line) → IsReadable schema lines → (end : Side) (w : What) (before behind : List Line) → lines ≡ before ++ line_of end w ∷ behind
-    → passes statement.Answers schema before (line_of end w) behind ≡ answers_line schema end (as_said schema end before) (other_as_said schema end before) (answered (said_by end before)) before w behind
+test-is : (schema : Schema) (lines : List Line) → IsReadable schema lines → (end : Side) (w : What) (before following : List Line) → lines ≡ before ++ line_of end w ∷ following
+    → passes statement.Answers schema before (line_of end w) following ≡ answers_line schema end (as_said schema end before) (other_as_said schema end before) (answered (said_by end before)) before w following
 unfolding line_test
-test-is schema lines readable end w before behind e =
-    ap (λ (own : EndReading). answers_line schema end own (other_of end (read schema before)) (answered (said_by end before)) before w behind) (read-as-said schema lines readable end before (line_of end w ∷ behind) e)
-    ∙ ap (λ (other : EndReading). answers_line schema end (as_said schema end before) other (answered (said_by end before)) before w behind) (other-is schema end before)
+test-is schema lines readable end w before following e =
+    ap (λ (own : EndReading). answers_line schema end own (other_of end (read schema before)) (answered (said_by end before)) before w following) (read-as-said schema lines readable end before (line_of end w ∷ following) e)
+    ∙ ap (λ (other : EndReading). answers_line schema end (as_said schema end before) other (answered (said_by end before)) before w following) (other-is schema end before)
 
-answer-test : (schema : Schema) (end : Side) (w : What) (n : ℤ) (before behind : List Line) → number_answered w ≡ Some n
-    → answers_line schema end (as_said schema end before) (other_as_said schema end before) (answered (said_by end before)) before w behind
+answer-test : (schema : Schema) (end : Side) (w : What) (n : ℤ) (before following : List Line) → number_answered w ≡ Some n
+    → answers_line schema end (as_said schema end before) (other_as_said schema end before) (answered (said_by end before)) before w following
     ≡ may_answer schema end (as_said schema end before) (other_as_said schema end before) (answered (said_by end before)) before n
-answer-test schema end w n before behind e =
+answer-test schema end w n before following e =
     by w e ∙ ap (λ (o : Option ℤ). option_map_or (may_answer schema end (as_said schema end before) (other_as_said schema end before) (answered (said_by end before)) before) o true) e
   where
-    by : (v : What) → number_answered v ≡ Some n → answers_line schema end (as_said schema end before) (other_as_said schema end before) (answered (said_by end before)) before v behind
+    by : (v : What) → number_answered v ≡ Some n → answers_line schema end (as_said schema end before) (other_as_said schema end before) (answered (said_by end before)) before v following
         ≡ is_answered_right schema end (as_said schema end before) (other_as_said schema end before) (answered (said_by end before)) before v
     by (what.Replaced m) f = cc
     by (what.TakeReply m) f = cc
@@ -121,27 +122,27 @@ answer-test schema end w n before behind e =
 
 pub answers-to : (schema : Schema) (lines : List Line) → Readable schema lines → all_pass statement.Answers schema lines ≡ true → Answers schema lines
 answers-to schema lines told h = record {
-  answers = λ end w n before behind e is. (may schema end before n).0 (sym (answer-test schema end w n before behind is) ∙ test end w before behind e);
-  replaced = λ end n before behind e. (replaced schema end before behind n (has-next schema lines readable end (what.Replaced n) before behind e)).0 (test end (what.Replaced n) before behind e);
-  late = λ end n before behind e is. (late schema end before n).0 (test end (what.TakeReply n) before behind e) is;
+  answers = λ end w n before following e is. (may schema end before n).0 (sym (answer-test schema end w n before following is) ∙ test end w before following e);
+  replaced = λ end n before following e. (replaced schema end before following n (has-next schema lines readable end (what.Replaced n) before following e)).0 (test end (what.Replaced n) before following e);
+  late = λ end n before following e is. (late schema end before n).0 (test end (what.TakeReply n) before following e) is;
 }
   where
     readable : IsReadable schema lines
     readable = readable-from schema lines told
 
-    test : (end : Side) (w : What) (before behind : List Line) → lines ≡ before ++ line_of end w ∷ behind → PassesAt schema end w before behind
-    test end w before behind e = sym (test-is schema lines readable end w before behind e) ∙ each-from (passes statement.Answers schema) [] lines h before (line_of end w) behind e
+    test : (end : Side) (w : What) (before following : List Line) → lines ≡ before ++ line_of end w ∷ following → PassesAt schema end w before following
+    test end w before following e = sym (test-is schema lines readable end w before following e) ∙ each-from (passes statement.Answers schema) [] lines h before (line_of end w) following e
 
-line-from : (schema : Schema) (lines : List Line) → IsReadable schema lines → Answers schema lines → (end : Side) (w : What) (before behind : List Line) → lines ≡ before ++ line_of end w ∷ behind → PassesAt schema end w before behind
-line-from schema lines readable s end (what.Replaced n) before behind e = (replaced schema end before behind n (has-next schema lines readable end (what.Replaced n) before behind e)).1 (s.replaced end n before behind e)
-line-from schema lines readable s end (what.TakeReply n) before behind e = (late schema end before n).1 (λ is. s.late end n before behind e is)
-line-from schema lines readable s end (what.Resolve n values) before behind e = (may schema end before n).1 (s.answers end (what.Resolve n values) n before behind e refl)
-line-from schema lines readable s end (what.Reject n) before behind e = (may schema end before n).1 (s.answers end (what.Reject n) n before behind e refl)
-line-from schema lines readable s end (what.AnswerOk n values) before behind e = (may schema end before n).1 (s.answers end (what.AnswerOk n values) n before behind e refl)
-line-from schema lines readable s end (what.AnswerFault n why) before behind e = (may schema end before n).1 (s.answers end (what.AnswerFault n why) n before behind e refl)
-line-from schema lines readable s end _ before behind e = refl
+line-from : (schema : Schema) (lines : List Line) → IsReadable schema lines → Answers schema lines → (end : Side) (w : What) (before following : List Line) → lines ≡ before ++ line_of end w ∷ following → PassesAt schema end w before following
+line-from schema lines readable s end (what.Replaced n) before following e = (replaced schema end before following n (has-next schema lines readable end (what.Replaced n) before following e)).1 (s.replaced end n before following e)
+line-from schema lines readable s end (what.TakeReply n) before following e = (late schema end before n).1 (λ is. s.late end n before following e is)
+line-from schema lines readable s end (what.Resolve n values) before following e = (may schema end before n).1 (s.answers end (what.Resolve n values) n before following e refl)
+line-from schema lines readable s end (what.Reject n) before following e = (may schema end before n).1 (s.answers end (what.Reject n) n before following e refl)
+line-from schema lines readable s end (what.AnswerOk n values) before following e = (may schema end before n).1 (s.answers end (what.AnswerOk n values) n before following e refl)
+line-from schema lines readable s end (what.AnswerFault n why) before following e = (may schema end before n).1 (s.answers end (what.AnswerFault n why) n before following e refl)
+line-from schema lines readable s end _ before following e = refl
 
 pub answers-from : (schema : Schema) (lines : List Line) → Readable schema lines → Answers schema lines → all_pass statement.Answers schema lines ≡ true
 answers-from schema lines told s =
-    each-to (passes statement.Answers schema) [] lines (λ before line behind e.
-    test-is schema lines (readable-from schema lines told) line.side line.what before behind e ∙ line-from schema lines (readable-from schema lines told) s line.side line.what before behind e)
+    each-to (passes statement.Answers schema) [] lines (λ before line following e.
+    test-is schema lines (readable-from schema lines told) line.side line.what before following e ∙ line-from schema lines (readable-from schema lines told) s line.side line.what before following e)

@@ -1,4 +1,4 @@
--- What is read of an end, by what it said.
+-- What is read of an end, by the lines that it printed.
 use Rattle.std.proofs.Common.{◌≡◌, ℕ, ℤ, List, ◌∷◌, [], ◌++◌, reverse, filter_map, Option, Some, None, unwrap_or, refl, sym, ap, ◌∙◌}
 use Rattle.std.specs.List.{cons_option, slice_get}
 use Rattle.std.proofs.lemmas.List.{reverse-append}
@@ -48,13 +48,13 @@ as_said schema end before = record (end_reading_of end (read schema before)) {
   stack = stack schema end before;
 }
 
-pub read-as-said : (schema : Schema) (lines : List Line) → IsReadable schema lines → (end : Side) (before behind : List Line) → lines ≡ before ++ behind → end_reading_of end (read schema before) ≡ as_said schema end before
-read-as-said schema lines readable end before behind e =
+pub read-as-said : (schema : Schema) (lines : List Line) → IsReadable schema lines → (end : Side) (before following : List Line) → lines ≡ before ++ following → end_reading_of end (read schema before) ≡ as_said schema end before
+read-as-said schema lines readable end before following e =
     ap (λ (x : EndState). record own { state = x }) (state-read schema end before)
     ∙ ap (λ (x : List ℤ). record own { state = state_of said; fallen = x }) (fallen-read schema end before)
     ∙ ap (λ (x : List ℤ). record own { state = state_of said; fallen = fallen said; settled = x }) (settled-read schema end before)
     ∙ ap (λ (x : List PacketKind). record own { state = state_of said; fallen = fallen said; settled = settled said; delivered = x }) (delivered-read schema end before)
-    ∙ ap (λ (x : List CallFrame). record own { state = state_of said; fallen = fallen said; settled = settled said; delivered = delivered said; stack = x }) (stack-read schema lines readable end before behind e)
+    ∙ ap (λ (x : List CallFrame). record own { state = state_of said; fallen = fallen said; settled = settled said; delivered = delivered said; stack = x }) (stack-read schema lines readable end before following e)
   where
     own : EndReading
     own = end_reading_of end (read schema before)

@@ -24,7 +24,7 @@ born own id protocol =
     (any-add (λ (a : BuiltActor). int_eq a.id id) (built own) (record { id = id; manager = last_actor own }) ∙ ap (λ (b : Bool). if b then true else was_built (built own) id) ((Decides-int_eq id id).1 refl))
     ∙ ap (λ (ids : List ℤ). not (has ids id)) (filter-add id_fallen own (what.Built id protocol))
 
--- nobody falls where resolvers are let go
+-- nobody falls where resolvers are destroyed
 none-falls : (id : ℤ) (lost : List What) → IsTrue (list_all lets_go lost) → list_any (is_fall_of id) lost ≡ false
 none-falls id [] e = refl
 none-falls id (w ∷ lost) e =

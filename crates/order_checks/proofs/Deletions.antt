@@ -102,8 +102,8 @@ down-step own (what.Fall id why) down builds falls =
     by a c false is h = down a c h
 down-step own w down builds falls = down-with own w (built own) (fallen own) (built-add own w) (filter-add id_fallen own w) down
 
-down-along : (schema : Schema) (lines : List Line) → Fallen schema lines → (end : Side) (before behind : List Line) → lines ≡ before ++ behind → IsDownward (said_by end before)
-down-along schema lines law end before behind e = through lines (λ (front : List Line). IsDownward (said_by end front)) (λ a c h. cc) more before behind e
+down-along : (schema : Schema) (lines : List Line) → Fallen schema lines → (end : Side) (before following : List Line) → lines ≡ before ++ following → IsDownward (said_by end before)
+down-along schema lines law end before following e = through lines (λ (front : List Line). IsDownward (said_by end front)) (λ a c h. cc) more before following e
   where
     more : (front : List Line) (line : Line) (later : List Line) → lines ≡ front ++ line ∷ later → IsDownward (said_by end front) → IsDownward (said_by end (front ++ line ∷ []))
     more front line later is down = subst IsDownward (sym (said-more end front line)) (by (same_side line.side end) refl)
@@ -158,40 +158,40 @@ take-of sync said k (what.Call n transaction route number values) d e = by (wait
     by false f = cc
 take-of sync said k _ d e = cc
 
-taken-here : (sync : ℤ → Bool) (end : Side) (k : ℕ) (line : Line) (behind : List Line) (d : HandledRequest) → frame_at sync end k line behind ≡ Some (frame.Dispatch d) → TakenAt end (line ∷ behind) d
-taken-here sync end k line behind d e = by (same_side line.side end) refl e
+taken-here : (sync : ℤ → Bool) (end : Side) (k : ℕ) (line : Line) (following : List Line) (d : HandledRequest) → frame_at sync end k line following ≡ Some (frame.Dispatch d) → TakenAt end (line ∷ following) d
+taken-here sync end k line following d e = by (same_side line.side end) refl e
   where
-    at : (b : Bool) → (if b then frame_of sync (said_by end behind) k line.what else None) ≡ Some (frame.Dispatch d) → line.side ≡ end → TakenAt end (line ∷ behind) d
+    at : (b : Bool) → (if b then frame_of sync (said_by end following) k line.what else None) ≡ Some (frame.Dispatch d) → line.side ≡ end → TakenAt end (line ∷ following) d
     at true f same =
-        let t : (values : Values) × (line.what ≡ what.Take d.seq d.route d.number values) = take-of sync (said_by end behind) k line.what d f in
-        record { front = []; values = t.0; rest = behind; split = ap (λ (s : Side). record { side = s; what = line.what } ∷ behind) same ∙ ap (λ (w : What). line_of end w ∷ behind) t.1 }
+        let t : (values : Values) × (line.what ≡ what.Take d.seq d.route d.number values) = take-of sync (said_by end following) k line.what d f in
+        record { front = []; values = t.0; rest = following; split = ap (λ (s : Side). record { side = s; what = line.what } ∷ following) same ∙ ap (λ (w : What). line_of end w ∷ following) t.1 }
     at false f same = cc
 
-    by : (b : Bool) → same_side line.side end ≡ b → (if b then frame_with sync (said_by end behind) k line.what else None) ≡ Some (frame.Dispatch d) → TakenAt end (line ∷ behind) d
-    by true own f = at (stays (said_by end behind)) f (side-is line.side end own)
+    by : (b : Bool) → same_side line.side end ≡ b → (if b then frame_with sync (said_by end following) k line.what else None) ≡ Some (frame.Dispatch d) → TakenAt end (line ∷ following) d
+    by true own f = at (stays (said_by end following)) f (side-is line.side end own)
     by false own f = cc
 
 taken-at : (sync : ℤ → Bool) (end : Side) (k : ℕ) (lines : List Line) (d : HandledRequest) → Contains (stack_from sync end k lines) (frame.Dispatch d) → TakenAt end lines d
 taken-at sync end k [] d c = absurd (omega (arith, c.1))
-taken-at sync end k (line ∷ behind) d c =
-    by (Contains-append_cases (stack_from sync end (k + 1) behind) (option_to_list (frame_at sync end k line behind)) (frame.Dispatch d) c) (λ h. taken-at sync end (k + 1) behind d h)
+taken-at sync end k (line ∷ following) d c =
+    by (Contains-append_cases (stack_from sync end (k + 1) following) (option_to_list (frame_at sync end k line following)) (frame.Dispatch d) c) (λ h. taken-at sync end (k + 1) following d h)
   where
-    by : Contains (stack_from sync end (k + 1) behind) (frame.Dispatch d) ⊎ Contains (option_to_list (frame_at sync end k line behind)) (frame.Dispatch d) → (Contains (stack_from sync end (k + 1) behind) (frame.Dispatch d) → TakenAt end behind d)
-        → TakenAt end (line ∷ behind) d
-    by (inl h) rest = let t : TakenAt end behind d = rest h in record { front = line ∷ t.front; values = t.values; rest = t.rest; split = ap (λ (ls : List Line). line ∷ ls) t.split }
-    by (inr h) rest = taken-here sync end k line behind d (one-is (frame_at sync end k line behind) (frame.Dispatch d) h)
+    by : Contains (stack_from sync end (k + 1) following) (frame.Dispatch d) ⊎ Contains (option_to_list (frame_at sync end k line following)) (frame.Dispatch d) → (Contains (stack_from sync end (k + 1) following) (frame.Dispatch d) → TakenAt end following d)
+        → TakenAt end (line ∷ following) d
+    by (inl h) rest = let t : TakenAt end following d = rest h in record { front = line ∷ t.front; values = t.values; rest = t.rest; split = ap (λ (ls : List Line). line ∷ ls) t.split }
+    by (inr h) rest = taken-here sync end k line following d (one-is (frame_at sync end k line following) (frame.Dispatch d) h)
 
 pub was-there : (own : List What) (id : ℤ) → IsTrue (lives own id) → was_built (built own) id ≡ true
 was-there own id e = (and_parts (was_built (built own) id) (not (has (fallen own) id)) e).0
 
-pub handled-built : (schema : Schema) (lines : List Line) → Living schema lines → (end : Side) (d : HandledRequest) (below : List CallFrame) (before behind : List Line) → lines ≡ before ++ behind → stack schema end before ≡ frame.Dispatch d ∷ below
+pub handled-built : (schema : Schema) (lines : List Line) → Living schema lines → (end : Side) (d : HandledRequest) (below : List CallFrame) (before following : List Line) → lines ≡ before ++ following → stack schema end before ≡ frame.Dispatch d ∷ below
     → was_built (built (said_by end before)) d.route ≡ true
-handled-built schema lines law end d below before behind e top =
+handled-built schema lines law end d below before following e top =
     let t : TakenAt end before d = taken-at (is_sync_of schema (said_by end before)) end 0 before d (subst (λ (fs : List CallFrame). Contains fs (frame.Dispatch d)) (sym top) (Contains-append_left (frame.Dispatch d ∷ []) below (frame.Dispatch d) (Contains-push [] (frame.Dispatch d)))) in
     let line = line_of end (what.Take d.seq d.route d.number t.values) in
-    let place : lines ≡ t.front ++ line ∷ (t.rest ++ behind) = e ∙ ap (λ (ls : List Line). ls ++ behind) t.split ∙ append_assoc t.front (line ∷ t.rest) behind in
+    let place : lines ≡ t.front ++ line ∷ (t.rest ++ following) = e ∙ ap (λ (ls : List Line). ls ++ following) t.split ∙ append_assoc t.front (line ∷ t.rest) following in
     ap (λ (own : List What). was_built (built own) d.route) (ap (said_by end) t.split ∙ said-append end t.front (line ∷ t.rest))
-    ∙ built-more (said_by end t.front) (said_by end (line ∷ t.rest)) d.route (was-there (said_by end t.front) d.route (law.takes end d.seq d.route d.number t.values t.front (t.rest ++ behind) place).0)
+    ∙ built-more (said_by end t.front) (said_by end (line ∷ t.rest)) d.route (was-there (said_by end t.front) d.route (law.takes end d.seq d.route d.number t.values t.front (t.rest ++ following) place).0)
 
 -- Deletions
 
@@ -202,31 +202,31 @@ dead own id e = ap (λ (b : Bool). was_built (built own) id && not b) e ∙ by (
     by true = refl
     by false = refl
 
-pub deleted-to : (schema : Schema) (lines : List Line) → Fallen schema lines → (end : Side) (w : What) (before behind : List Line) → lines ≡ before ++ line_of end w ∷ behind → id_fallen w ≡ None
-    → HasEffects end (effects_next behind) behind → (id : ℤ) → has_fallen (fallen (said_by end before)) id (effects_next behind) ≡ true → IsDeleted end (said_by end before ++ w ∷ []) id behind
-deleted-to schema lines law end w before behind e quiet prints id f = record {
-  effects = effects_next behind;
+pub deleted-to : (schema : Schema) (lines : List Line) → Fallen schema lines → (end : Side) (w : What) (before following : List Line) → lines ≡ before ++ line_of end w ∷ following → id_fallen w ≡ None
+    → HasEffects end (effects_next following) following → (id : ℤ) → has_fallen (fallen (said_by end before)) id (effects_next following) ≡ true → IsDeleted end (said_by end before ++ w ∷ []) id following
+deleted-to schema lines law end w before following e quiet prints id f = record {
+  effects = effects_next following;
   are = prints;
   gone = dead own id gone;
   below = λ x way. dead own x (below-falls (fallen own) (built own) x id way down gone);
 }
   where
     own : List What
-    own = (said_by end before ++ w ∷ []) ++ effects_next behind
+    own = (said_by end before ++ w ∷ []) ++ effects_next following
 
     gone : IsTrue (has (fallen own) id)
-    gone = fallen-after (said_by end before) w (effects_next behind) id quiet ∙ f
+    gone = fallen-after (said_by end before) w (effects_next following) id quiet ∙ f
 
-    place : lines ≡ (before ++ line_of end w ∷ map (line_of end) (effects_next behind)) ++ prints.later
-    place = e ∙ ap (λ (ls : List Line). before ++ line_of end w ∷ ls) prints.split ∙ sym (append_assoc before (line_of end w ∷ map (line_of end) (effects_next behind)) prints.later)
+    place : lines ≡ (before ++ line_of end w ∷ map (line_of end) (effects_next following)) ++ prints.later
+    place = e ∙ ap (λ (ls : List Line). before ++ line_of end w ∷ ls) prints.split ∙ sym (append_assoc before (line_of end w ∷ map (line_of end) (effects_next following)) prints.later)
 
     down : IsDownward own
-    down = subst IsDownward (said-after end w before (effects_next behind)) (down-along schema lines law end (before ++ line_of end w ∷ map (line_of end) (effects_next behind)) prints.later place)
+    down = subst IsDownward (said-after end w before (effects_next following)) (down-along schema lines law end (before ++ line_of end w ∷ map (line_of end) (effects_next following)) prints.later place)
 
-pub deleted-from : (end : Side) (w : What) (before behind : List Line) → id_fallen w ≡ None → (id : ℤ) → was_built (built (said_by end before)) id ≡ true → IsDeleted end (said_by end before ++ w ∷ []) id behind
-    → has_fallen (fallen (said_by end before)) id (effects_next behind) ≡ true
-deleted-from end w before behind quiet id there d =
-    ap (has_fallen (fallen (said_by end before)) id) (next-are end d.effects behind d.are)
+pub deleted-from : (end : Side) (w : What) (before following : List Line) → id_fallen w ≡ None → (id : ℤ) → was_built (built (said_by end before)) id ≡ true → IsDeleted end (said_by end before ++ w ∷ []) id following
+    → has_fallen (fallen (said_by end before)) id (effects_next following) ≡ true
+deleted-from end w before following quiet id there d =
+    ap (has_fallen (fallen (said_by end before)) id) (next-are end d.effects following d.are)
     ∙ (sym (fallen-after (said_by end before) w d.effects id quiet)
     ∙ by (has (fallen own) id) (sym (ap (λ (b : Bool). b && not (has (fallen own) id)) (built-more (said_by end before ++ w ∷ []) d.effects id (built-more (said_by end before) (w ∷ []) id there))) ∙ d.gone))
   where

@@ -1,4 +1,4 @@
--- What the lines of an end say last, and whether they reject a promise.
+-- The last events of an end's lines, and whether these reject a promise.
 use Rattle.std.proofs.Common.{◌≡◌, ℤ, Bool, true, false, ◌&&◌, if◌then◌else◌, IsTrue, List, [], ◌∷◌, ◌++◌, Any, Contains, reverse, find, Option, Some, None, option_map, refl, sym, ap, subst, ◌∙◌}
 use Rattle.std.specs.Bool.{Decides}
 use Rattle.std.specs.List.{list_any}
@@ -26,7 +26,7 @@ use Rattle.order_checks.proofs.Said.{said-more}
 
 -- the last event of an end
 last-is : (end : Side) (before : List Line) → option_map (λ (line : Line). line.what) (find (is_event_at end) (reverse before)) ≡ last_event (said_by end before)
-last-is end before = through before (λ (front : List Line). option_map (λ (line : Line). line.what) (find (is_event_at end) (reverse front)) ≡ last_event (said_by end front)) refl (λ front line behind is p. more front line p) before [] (sym (append-nil before))
+last-is end before = through before (λ (front : List Line). option_map (λ (line : Line). line.what) (find (is_event_at end) (reverse front)) ≡ last_event (said_by end front)) refl (λ front line following is p. more front line p) before [] (sym (append-nil before))
   where
     more : (front : List Line) (line : Line) → option_map (λ (l : Line). l.what) (find (is_event_at end) (reverse front)) ≡ last_event (said_by end front)
         → option_map (λ (l : Line). l.what) (find (is_event_at end) (reverse (front ++ line ∷ []))) ≡ last_event (said_by end (front ++ line ∷ []))

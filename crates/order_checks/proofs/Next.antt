@@ -16,15 +16,15 @@ use Rattle.law_statements.proofs.Along.{read-more, readable-places}
 use Rattle.order_statements.specs.Shape.{HasEffects}
 use Rattle.order_checks.specs.EffectTests.{effects_next, is_effect_line, whats}
 
-next-cons : (line : Line) (behind : List Line) → effects_next (line ∷ behind) ≡ (if is_effect line.what then line.what ∷ effects_next behind else [])
+next-cons : (line : Line) (following : List Line) → effects_next (line ∷ following) ≡ (if is_effect line.what then line.what ∷ effects_next following else [])
 unfolding is_effect_line
-next-cons line behind = ap whats (take_while-cons is_effect_line line behind) ∙ by (is_effect line.what)
+next-cons line following = ap whats (take_while-cons is_effect_line line following) ∙ by (is_effect line.what)
   where
-    by : (b : Bool) → whats (cond b (line ∷ take_while is_effect_line behind) []) ≡ (if b then line.what ∷ whats (take_while is_effect_line behind) else [])
+    by : (b : Bool) → whats (cond b (line ∷ take_while is_effect_line following) []) ≡ (if b then line.what ∷ whats (take_while is_effect_line following) else [])
     by true = refl
     by false = refl
 
--- before a moment there is none
+-- before a moment there is no effect
 none-next : (later : List Line) → IsTrue (is_moment later) → effects_next later ≡ []
 none-next [] moment = refl
 none-next (line ∷ later) moment = next-cons line later ∙ ap (λ (b : Bool). if b then line.what ∷ effects_next later else []) (not-true (is_effect line.what) moment)
@@ -38,8 +38,8 @@ all-next end (w ∷ effects) later are moment =
     ∙ ap (λ (ws : List What). w ∷ ws) (all-next end effects later both.1 moment)
 
 -- what an end prints after a place are these effects
-pub next-are : (end : Side) (effects : List What) (behind : List Line) → HasEffects end effects behind → effects_next behind ≡ effects
-next-are end effects behind h = ap effects_next h.split ∙ all-next end effects h.later h.are_effects h.moment
+pub next-are : (end : Side) (effects : List What) (following : List Line) → HasEffects end effects following → effects_next following ≡ effects
+next-are end effects following h = ap effects_next h.split ∙ all-next end effects h.later h.are_effects h.moment
 
 -- The end of the last event
 
@@ -75,31 +75,31 @@ last-here schema front line readable = last-more schema front line ∙ by (is_ef
     by true is = effect-of schema front line readable is
     by false is = refl
 
-has-from : (schema : Schema) (lines : List Line) → ((before : List Line) (line : Line) (behind : List Line) → lines ≡ before ++ line ∷ behind → IsTrue (is_readable schema (read schema before) line))
-    → (end : Side) (front behind : List Line) → lines ≡ front ++ behind → (read schema front).last ≡ Some end → HasEffects end (effects_next behind) behind
+has-from : (schema : Schema) (lines : List Line) → ((before : List Line) (line : Line) (following : List Line) → lines ≡ before ++ line ∷ following → IsTrue (is_readable schema (read schema before) line))
+    → (end : Side) (front following : List Line) → lines ≡ front ++ following → (read schema front).last ≡ Some end → HasEffects end (effects_next following) following
 has-from schema lines readable end front [] e last = record { later = []; split = refl; are_effects = refl; moment = refl }
-has-from schema lines readable end front (line ∷ behind) e last =
+has-from schema lines readable end front (line ∷ following) e last =
     by (is_effect line.what) refl
-    (has-from schema lines readable end (front ++ line ∷ []) behind (e ∙ sym (append_assoc front (line ∷ []) behind)))
+    (has-from schema lines readable end (front ++ line ∷ []) following (e ∙ sym (append_assoc front (line ∷ []) following)))
   where
     here : IsTrue (is_readable schema (read schema front) line)
-    here = readable front line behind e
+    here = readable front line following e
 
-    by : (b : Bool) → is_effect line.what ≡ b → ((read schema (front ++ line ∷ [])).last ≡ Some end → HasEffects end (effects_next behind) behind) → HasEffects end (effects_next (line ∷ behind)) (line ∷ behind)
-    by false is rest = subst (λ (ws : List What). HasEffects end ws (line ∷ behind)) (sym (none-next (line ∷ behind) (ap not is))) (record { later = line ∷ behind; split = refl; are_effects = refl; moment = ap not is })
+    by : (b : Bool) → is_effect line.what ≡ b → ((read schema (front ++ line ∷ [])).last ≡ Some end → HasEffects end (effects_next following) following) → HasEffects end (effects_next (line ∷ following)) (line ∷ following)
+    by false is rest = subst (λ (ws : List What). HasEffects end ws (line ∷ following)) (sym (none-next (line ∷ following) (ap not is))) (record { later = line ∷ following; split = refl; are_effects = refl; moment = ap not is })
     by true is rest =
         let same : line.side ≡ end = cc (sym (effect-of schema front line here is) ∙ last) in
-        let more : HasEffects end (effects_next behind) behind = rest (last-here schema front line here ∙ ap (λ (s : Side). Some s) same) in
-        subst (λ (ws : List What). HasEffects end ws (line ∷ behind)) (sym (next-cons line behind ∙ ap (λ (b : Bool). if b then line.what ∷ effects_next behind else []) is))
+        let more : HasEffects end (effects_next following) following = rest (last-here schema front line here ∙ ap (λ (s : Side). Some s) same) in
+        subst (λ (ws : List What). HasEffects end ws (line ∷ following)) (sym (next-cons line following ∙ ap (λ (b : Bool). if b then line.what ∷ effects_next following else []) is))
         (record {
           later = more.later;
-          split = ap (λ (s : Side). record { side = s; what = line.what } ∷ behind) same ∙ ap (λ (ls : List Line). line_of end line.what ∷ ls) more.split;
-          are_effects = and_from (is_effect line.what) (list_all is_effect (effects_next behind)) is more.are_effects;
+          split = ap (λ (s : Side). record { side = s; what = line.what } ∷ following) same ∙ ap (λ (ls : List Line). line_of end line.what ∷ ls) more.split;
+          are_effects = and_from (is_effect line.what) (list_all is_effect (effects_next following)) is more.are_effects;
           moment = more.moment;
         })
 
 -- after a line of an end come its effects
-pub has-next : (schema : Schema) (lines : List Line) → IsReadable schema lines → (end : Side) (w : What) (before behind : List Line) → lines ≡ before ++ line_of end w ∷ behind → HasEffects end (effects_next behind) behind
-has-next schema lines readable end w before behind e =
-    has-from schema lines (readable-places schema lines readable) end (before ++ line_of end w ∷ []) behind (e ∙ sym (append_assoc before (line_of end w ∷ []) behind))
-    (last-here schema before (line_of end w) (readable-places schema lines readable before (line_of end w) behind e))
+pub has-next : (schema : Schema) (lines : List Line) → IsReadable schema lines → (end : Side) (w : What) (before following : List Line) → lines ≡ before ++ line_of end w ∷ following → HasEffects end (effects_next following) following
+has-next schema lines readable end w before following e =
+    has-from schema lines (readable-places schema lines readable) end (before ++ line_of end w ∷ []) following (e ∙ sym (append_assoc before (line_of end w ∷ []) following))
+    (last-here schema before (line_of end w) (readable-places schema lines readable before (line_of end w) following e))

@@ -16,7 +16,8 @@ use Rattle.history_reading.specs.Reading.{end_reading_of, read}
 use Rattle.channel_laws.specs.Notes.{In, here, there}
 use Rattle.law_statements.specs.Arrived.{Passing, arrives, gives_up, leaves, passings}
 use Rattle.law_statements.specs.Readable.{Readable}
-use Rattle.law_statements.specs.Said.{line_of, other_end, said_by}
+use Rattle.ipdl_base.specs.Sides.{other as other_end}
+use Rattle.law_statements.specs.Said.{line_of, said_by}
 use Rattle.law_statements.specs.Stack.{stack}
 use Rattle.law_statements.specs.Waits.{defers_kind}
 use Rattle.law_statements.proofs.Along.{each-from, each-to}
@@ -39,7 +40,7 @@ use Rattle.order_checks.proofs.WaitingLines.{waits_at}
 
 -- Lists
 
--- a packet of a list stands between others
+-- a packet of a list is between others
 record Standing (q : PacketKind) (packets : List PacketKind) : Type 0 where
   front : List PacketKind
   back : List PacketKind
@@ -130,7 +131,7 @@ first-from deferred overtaken packet (x ∷ older) younger free passed =
 first-is : (deferred overtaken : PacketKind → Bool) (packet : PacketKind) (xs : List PacketKind) → Decides (takes_first_free deferred overtaken packet xs) (FirstFree deferred overtaken packet xs)
 first-is deferred overtaken packet xs = (first-to deferred overtaken packet xs, λ f. ap (takes_first_free deferred overtaken packet) f.split ∙ first-from deferred overtaken packet f.older f.younger f.free f.passed)
 
--- A packet that waits stands after the older ones that wait
+-- A packet that waits is after the older ones that wait
 
 record OlderWait (P : PacketKind → Type 0) (packet : PacketKind) (earlier later : List Passing) : Type 0 where
   older : List PacketKind
@@ -247,26 +248,26 @@ module _ (schema : Schema) (end : Side) (before : List Line) (st : (end_reading_
 
 -- Lines
 
-passes-is : (schema : Schema) (before : List Line) (end : Side) (w : What) (behind : List Line)
-    → passes statement.Order schema before (line_of end w) behind ≡ order_line schema end (end_reading_of end (read schema before)) (end_reading_of (other_end end) (read schema before)) (waits_at schema end before) w
+passes-is : (schema : Schema) (before : List Line) (end : Side) (w : What) (following : List Line)
+    → passes statement.Order schema before (line_of end w) following ≡ order_line schema end (end_reading_of end (read schema before)) (end_reading_of (other_end end) (read schema before)) (waits_at schema end before) w
 unfolding line_test
-passes-is schema before end w behind = ap (λ (o : EndReading). order_line schema end (end_reading_of end (read schema before)) o (waits_at schema end before) w) (other-read end (read schema before))
+passes-is schema before end w following = ap (λ (o : EndReading). order_line schema end (end_reading_of end (read schema before)) o (waits_at schema end before) w) (other-read end (read schema before))
 
 module _ (schema : Schema) (lines : List Line) (r : IsReadable schema lines) where
-  at : (end : Side) (w : What) (before behind : List Line) → lines ≡ before ++ line_of end w ∷ behind
-      → Decides (passes statement.Order schema before (line_of end w) behind) ((packet : PacketKind) → packet_taken w ≡ Some packet → TakesFirstFree schema end before packet × (IsTrue (is_shut w) → WaitsAlone schema end before packet))
-  at end w before behind e =
-      subst (λ (b : Bool). Decides b ((packet : PacketKind) → packet_taken w ≡ Some packet → TakesFirstFree schema end before packet × (IsTrue (is_shut w) → WaitsAlone schema end before packet))) (sym (passes-is schema before end w behind))
-      (line-is schema end before (stack-read schema lines r end before (line_of end w ∷ behind) e) w)
+  at : (end : Side) (w : What) (before following : List Line) → lines ≡ before ++ line_of end w ∷ following
+      → Decides (passes statement.Order schema before (line_of end w) following) ((packet : PacketKind) → packet_taken w ≡ Some packet → TakesFirstFree schema end before packet × (IsTrue (is_shut w) → WaitsAlone schema end before packet))
+  at end w before following e =
+      subst (λ (b : Bool). Decides b ((packet : PacketKind) → packet_taken w ≡ Some packet → TakesFirstFree schema end before packet × (IsTrue (is_shut w) → WaitsAlone schema end before packet))) (sym (passes-is schema before end w following))
+      (line-is schema end before (stack-read schema lines r end before (line_of end w ∷ following) e) w)
 
   to : IsTrue (all_pass statement.Order schema lines) → Order schema lines
   to h = record {
-    takes = λ end w packet before behind e is. ((at end w before behind e).0 (each-from (passes statement.Order schema) [] lines h before (line_of end w) behind e) packet is).0;
-    farewells = λ end w packet before behind e shut is. ((at end w before behind e).0 (each-from (passes statement.Order schema) [] lines h before (line_of end w) behind e) packet is).1 shut;
+    takes = λ end w packet before following e is. ((at end w before following e).0 (each-from (passes statement.Order schema) [] lines h before (line_of end w) following e) packet is).0;
+    farewells = λ end w packet before following e shut is. ((at end w before following e).0 (each-from (passes statement.Order schema) [] lines h before (line_of end w) following e) packet is).1 shut;
   }
 
   from : Order schema lines → IsTrue (all_pass statement.Order schema lines)
-  from o = each-to (passes statement.Order schema) [] lines (λ before line behind e. (at line.side line.what before behind e).1 (λ packet is. (o.takes line.side line.what packet before behind e is, λ shut. o.farewells line.side line.what packet before behind e shut is)))
+  from o = each-to (passes statement.Order schema) [] lines (λ before line following e. (at line.side line.what before following e).1 (λ packet is. (o.takes line.side line.what packet before following e is, λ shut. o.farewells line.side line.what packet before following e shut is)))
 
 pub order-is : (schema : Schema) (lines : List Line) → Readable schema lines → (IsTrue (all_pass statement.Order schema lines) ↔ Order schema lines)
 order-is schema lines r = (to schema lines (readable-from schema lines r), from schema lines (readable-from schema lines r))

@@ -8,7 +8,8 @@ use Rattle.ipdl_base.specs.declared.schema.Schema.{Schema}
 use Rattle.ipdl_base.specs.Lines.{same_side}
 use Rattle.history_reading.specs.declared.parts.PacketKind.{PacketKind}
 use Rattle.law_statements.specs.Arrived.{Passing, arrives, gives_up, leaves, passing, passings}
-use Rattle.law_statements.specs.Said.{line_of, other_end, said_by}
+use Rattle.ipdl_base.specs.Sides.{other}
+use Rattle.law_statements.specs.Said.{line_of, said_by}
 use Rattle.law_statements.proofs.Ends.{said-other, said-own}
 use Rattle.law_statements.proofs.Lists.{add, made-add}
 use Rattle.order_statements.specs.Waiting.{waiting}
@@ -34,7 +35,7 @@ own-with schema end lines w x is =
 own-without : (schema : Schema) (end : Side) (lines : List Line) (w : What) → passing schema (said_by end lines) w ≡ None → waits_at schema end lines ≡ waits_at schema end (lines ++ line_of end w ∷ [])
 own-without schema end lines w is = sym (own-passing schema end lines w ∙ ap (λ (o : Option Passing). waiting (add (passings schema (said_by end lines)) o)) is)
 
-others-same : (schema : Schema) (end : Side) (lines : List Line) (w : What) → waits_at schema (other_end end) lines ≡ waits_at schema (other_end end) (lines ++ line_of end w ∷ [])
+others-same : (schema : Schema) (end : Side) (lines : List Line) (w : What) → waits_at schema (other end) lines ≡ waits_at schema (other end) (lines ++ line_of end w ∷ [])
 others-same schema end lines w = ap (λ (ws : List What). waiting (passings schema ws)) (sym (said-other end lines w))
 
 -- where something passes by the line

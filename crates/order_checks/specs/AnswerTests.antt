@@ -64,6 +64,6 @@ is_late_right end own before n = if has own.settled n then list_any (is_rejectio
 -- A line of an end answers as is owed: by what is read of the end and of the other before it, the requests that the end has
 -- answered, and the lines before it and after it.
 abbrev pub answers_line : Schema → Side → EndReading → EndReading → List ℤ → List Line → What → List Line → Bool
-answers_line schema end own other answered before (what.Replaced n) behind = is_replaced_right other n (effects_next behind)
-answers_line schema end own other answered before (what.TakeReply n) behind = is_late_right end own before n
-answers_line schema end own other answered before w behind = is_answered_right schema end own other answered before w
+answers_line schema end own other answered before (what.Replaced n) following = is_replaced_right other n (effects_next following)
+answers_line schema end own other answered before (what.TakeReply n) following = is_late_right end own before n
+answers_line schema end own other answered before w following = is_answered_right schema end own other answered before w

@@ -24,7 +24,7 @@ use Rattle.law_statements.specs.Packets.{number_settled}
 use Rattle.order_statements.specs.Effects.{lets_go}
 use Rattle.order_statements.specs.Shape.{constructor_of, is_destructor, is_open, number_kept, owes_reply}
 
--- what lines say
+-- the contents of lines
 abbrev pub whats : List Line → List What
 whats lines = map (λ line. line.what) lines
 
@@ -33,9 +33,9 @@ unfoldable pub is_effect_line : Line → Bool
 is_effect_line line = is_effect line.what
 
 abbrev pub effects_next : List Line → List What
-effects_next behind = whats (take_while is_effect_line behind)
+effects_next following = whats (take_while is_effect_line following)
 
--- there is none
+-- there is no effect
 abbrev pub is_none : List What → Bool
 is_none [] = true
 is_none (w ∷ more) = false
@@ -54,7 +54,7 @@ abbrev pub is_fault_first : ℤ → Reason → List What → Bool
 is_fault_first n why [] = false
 is_fault_first n why (w ∷ more) = is_fault_to n why w
 
--- it is the only one where it is due, and else there is none
+-- it is the only one if it is due, and there is no effect otherwise
 abbrev pub is_fault_due : Bool → ℤ → Reason → List What → Bool
 is_fault_due due n why effects = if due then is_fault_alone n why effects else is_none effects
 
@@ -84,7 +84,7 @@ abbrev pub is_birth : List ℤ → ℕ → What → Bool
 is_birth fallen protocol (what.Built id p) = (p == protocol) && not (has fallen id)
 is_birth fallen protocol _ = false
 
--- it is the only one, or stands after one answer by which a resolver is let go
+-- it is the only one, or the only one after an answer for a destroyed resolver
 abbrev pub is_birth_alone : List ℤ → ℕ → List What → Bool
 is_birth_alone fallen protocol (w ∷ []) = is_birth fallen protocol w
 is_birth_alone fallen protocol _ = false
@@ -147,7 +147,7 @@ abbrev pub is_top_returned : Schema → Side → EndReading → List ℤ → Lis
 is_top_returned schema end own answered before (frame.Dispatch d ∷ below) effects = is_returned_right schema end own answered before d effects
 is_top_returned schema end own answered before _ effects = true
 
--- a resolver that a name held is let go, where it has not answered and the name gets something else
+-- the resolver of a name is destroyed, if it has not answered and the name is bound anew
 abbrev pub is_let_go : List ℤ → List ℕ → List What → What → Bool
 is_let_go answered name effects (what.Keep n held) = if pointwise nat_eq held name && not (has answered n) then is_fault_alone n reason.ResolverDestroyed effects else true
 is_let_go answered name effects _ = true
@@ -165,16 +165,16 @@ is_reply_right own n effects = if has own.settled n then is_none effects else is
 -- A line of an end gives its effects: by what is read of the end before it, the requests that the end has answered, and the
 -- lines before it and after it.
 abbrev pub effects_line : Schema → Side → EndReading → List ℤ → List Line → What → List Line → Bool
-effects_line schema end own answered before (what.Send n route number values) behind = is_sent_right schema own route number (effects_next behind)
-effects_line schema end own answered before (what.Call n transaction route number values) behind = is_sent_right schema own route number (effects_next behind)
-effects_line schema end own answered before (what.Take n route number values) behind = is_taken_right schema own number (effects_next behind)
-effects_line schema end own answered before (what.Drop n route number id) behind = is_dropped_right schema own n number (effects_next behind)
-effects_line schema end own answered before (what.Return n) behind = is_top_returned schema end own answered before own.stack (effects_next behind)
-effects_line schema end own answered before (what.Keep n name) behind = is_renamed_right end own answered before name (effects_next behind)
-effects_line schema end own answered before (what.Let name id) behind = is_renamed_right end own answered before name (effects_next behind)
-effects_line schema end own answered before (what.TakeReply n) behind = is_reply_right own n (effects_next behind)
-effects_line schema end own answered before (what.RefusedSend refusal number) behind = is_none (effects_next behind)
-effects_line schema end own answered before (what.RefusedClose refusal) behind = is_none (effects_next behind)
-effects_line schema end own answered before (what.RefusedResolve refusal) behind = is_none (effects_next behind)
-effects_line schema end own answered before (what.RefusedReject refusal) behind = is_none (effects_next behind)
-effects_line schema end own answered before _ behind = true
+effects_line schema end own answered before (what.Send n route number values) following = is_sent_right schema own route number (effects_next following)
+effects_line schema end own answered before (what.Call n transaction route number values) following = is_sent_right schema own route number (effects_next following)
+effects_line schema end own answered before (what.Take n route number values) following = is_taken_right schema own number (effects_next following)
+effects_line schema end own answered before (what.Drop n route number id) following = is_dropped_right schema own n number (effects_next following)
+effects_line schema end own answered before (what.Return n) following = is_top_returned schema end own answered before own.stack (effects_next following)
+effects_line schema end own answered before (what.Keep n name) following = is_renamed_right end own answered before name (effects_next following)
+effects_line schema end own answered before (what.Let name id) following = is_renamed_right end own answered before name (effects_next following)
+effects_line schema end own answered before (what.TakeReply n) following = is_reply_right own n (effects_next following)
+effects_line schema end own answered before (what.RefusedSend refusal number) following = is_none (effects_next following)
+effects_line schema end own answered before (what.RefusedClose refusal) following = is_none (effects_next following)
+effects_line schema end own answered before (what.RefusedResolve refusal) following = is_none (effects_next following)
+effects_line schema end own answered before (what.RefusedReject refusal) following = is_none (effects_next following)
+effects_line schema end own answered before _ following = true

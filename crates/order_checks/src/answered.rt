@@ -1,4 +1,4 @@
-//! Which requests each end has answered.
+//! The requests that each end has answered.
 ghost use Rattle.std.specs.Prelude.{◌≡◌, ◌∷◌, ◌++◌, [], OnOk, List};
 ghost use Rattle.ipdl_base.specs.declared.line.Line as declared;
 ghost use Rattle.order_statements.specs.Shape.{number_answered};
@@ -8,7 +8,7 @@ use history_reading::NumberList;
 use ipdl_base::{Line, Side, What};
 use std::alloc::{AllocError, Global};
 
-/// The number of the request that a line answers.
+/// Returns the number of the request that a line answers.
 pub fn number_answered(what: &What) -> Option<i32>
     ensures { result ≡ number_answered what.now }
 {
@@ -27,7 +27,7 @@ pub struct AnsweredNumbers {
 }
 
 impl AnsweredNumbers {
-    /// Those of no lines. Takes no memory.
+    /// Returns the numbers after no lines. Takes no memory.
     pub fn new(alloc: Global) -> AnsweredNumbers
         ensures { AreAnswered [] result }
     {
@@ -37,7 +37,7 @@ impl AnsweredNumbers {
         }
     }
 
-    /// Those that an end has answered.
+    /// Returns the numbers of the requests that an end has answered.
     pub fn of(&self, side: Side) -> &NumberList
         ensures { result.now ≡ numbers_of side self.now }
     {
@@ -47,7 +47,7 @@ impl AnsweredNumbers {
         }
     }
 
-    /// An end answers the request of a number.
+    /// Adds the number of a request that an end answers.
     fn push(&mut self, side: Side, n: i32) -> Result<(), AllocError>
         ensures { OnOk result (AnswersOne side n self.old self.new) }
     {
@@ -57,7 +57,7 @@ impl AnsweredNumbers {
         }
     }
 
-    /// One more line is read.
+    /// Reads one more line.
     pub fn note(&mut self, line: &Line) -> Result<(), AllocError>
         ensures { OnOk result ((lines : List declared.Line) → AreAnswered lines self.old → AreAnswered (lines ++ line.now ∷ []) self.new) }
     {

@@ -168,13 +168,13 @@ pub fn answers_line(
     answered: &NumberList,
     before: &[Line],
     what: &What,
-    behind: &[Line],
+    following: &[Line],
 ) -> bool
     requires { IsSound schema.now }
-    ensures { result ≡ the.answers_line schema.now side (end_view own.now) (end_view other.now) answered.now before.now what.now behind.now }
+    ensures { result ≡ the.answers_line schema.now side (end_view own.now) (end_view other.now) answered.now before.now what.now following.now }
 {
     match what {
-        What::Replaced(n) => is_replaced_right(other, *n, effects_next(behind)),
+        What::Replaced(n) => is_replaced_right(other, *n, effects_next(following)),
         What::TakeReply(n) => is_late_right(own, before, side, *n),
         _ => is_answered_right(schema, side, own, other, answered, before, what),
     }

@@ -1,4 +1,4 @@
-//! Tests of the effects of an event. Lines of effects are seen as what they say.
+//! Tests of the effects of an event.
 ghost use Rattle.std.specs.Prelude.{◌≡◌, ◌≤◌, length};
 ghost use Rattle.std.specs.List.{list_any, prefix_len};
 ghost use Rattle.history_reading.specs.Settled.{is_fall_of};
@@ -18,27 +18,27 @@ fn is_effect_line(line: &Line) -> bool
     is_effect(&line.what)
 }
 
-/// How many effects stand first in lines.
-fn count_effects(behind: &[Line]) -> usize
-    ensures count { result ≡ prefix_len the.is_effect_line behind.now }
-    ensures within { result ≤ length behind.now }
+/// Returns the number of effects that lines begin with.
+fn count_effects(following: &[Line]) -> usize
+    ensures count { result ≡ prefix_len the.is_effect_line following.now }
+    ensures within { result ≤ length following.now }
 {
-    for (index, line) in behind.iter().enumerate() {
+    for (index, line) in following.iter().enumerate() {
         if !is_effect_line(line) {
             return index;
         }
     }
-    behind.len()
+    following.len()
 }
 
-/// The effects that stand first in lines.
-pub fn effects_next(behind: &[Line]) -> &[Line]
-    ensures { the.whats result.now ≡ the.effects_next behind.now }
+/// Returns the effects that lines begin with.
+pub fn effects_next(following: &[Line]) -> &[Line]
+    ensures { the.whats result.now ≡ the.effects_next following.now }
 {
-    &behind[..count_effects(behind)]
+    &following[..count_effects(following)]
 }
 
-/// Whether there is none.
+/// Whether there is no effect.
 pub fn is_none(effects: &[Line]) -> bool
     ensures { result ≡ the.is_none (the.whats effects.now) }
 {
@@ -58,7 +58,7 @@ pub fn same_reason(a: Reason, b: Reason) -> bool
     )
 }
 
-/// Whether one is the answer with a fault to the request of a number.
+/// Whether an effect is the answer with a fault to the request of a number.
 fn is_fault_to(what: &What, n: i32, why: Reason) -> bool
     ensures { result ≡ the.is_fault_to n why what.now }
 {
@@ -68,7 +68,7 @@ fn is_fault_to(what: &What, n: i32, why: Reason) -> bool
     }
 }
 
-/// Whether that is the only one.
+/// Whether the only effect is that answer.
 pub fn is_fault_alone(effects: &[Line], n: i32, why: Reason) -> bool
     ensures { result ≡ the.is_fault_alone n why (the.whats effects.now) }
 {
@@ -78,7 +78,7 @@ pub fn is_fault_alone(effects: &[Line], n: i32, why: Reason) -> bool
     }
 }
 
-/// Whether it is the first.
+/// Whether the first effect is that answer.
 pub fn is_fault_first(effects: &[Line], n: i32, why: Reason) -> bool
     ensures { result ≡ the.is_fault_first n why (the.whats effects.now) }
 {
@@ -88,7 +88,7 @@ pub fn is_fault_first(effects: &[Line], n: i32, why: Reason) -> bool
     }
 }
 
-/// Whether it is the only one where it is due, and else there is none.
+/// Whether the only effect is that answer if it is due, and there is no effect otherwise.
 pub fn is_fault_due(effects: &[Line], due: bool, n: i32, why: Reason) -> bool
     ensures { result ≡ the.is_fault_due due n why (the.whats effects.now) }
 {
@@ -99,7 +99,7 @@ pub fn is_fault_due(effects: &[Line], due: bool, n: i32, why: Reason) -> bool
     }
 }
 
-/// Whether one is what the return of a handler answers to the sync request of a number.
+/// Whether an effect is the answer of a returning handler to the sync request of a number.
 fn is_returned(what: &What, n: i32) -> bool
     ensures { result ≡ the.is_returned n what.now }
 {
@@ -110,7 +110,7 @@ fn is_returned(what: &What, n: i32) -> bool
     }
 }
 
-/// Whether that is the first.
+/// Whether the first effect is that answer.
 pub fn is_return_first(effects: &[Line], n: i32) -> bool
     ensures { result ≡ the.is_return_first n (the.whats effects.now) }
 {
@@ -120,7 +120,7 @@ pub fn is_return_first(effects: &[Line], n: i32) -> bool
     }
 }
 
-/// The number of the promise that a line settles.
+/// Returns the number of the promise that a line settles.
 fn number_settled(what: &What) -> Option<i32>
     ensures { result ≡ number_settled what.now }
 {
@@ -130,7 +130,7 @@ fn number_settled(what: &What) -> Option<i32>
     }
 }
 
-/// Whether one settles the promise of a number.
+/// Whether an effect settles the promise of a number.
 fn is_settling_of(what: &What, n: i32) -> bool
     ensures { result ≡ the.is_settling_of n what.now }
 {
@@ -140,7 +140,7 @@ fn is_settling_of(what: &What, n: i32) -> bool
     }
 }
 
-/// Whether that is the only one.
+/// Whether the only effect settles it.
 pub fn is_settling_alone(effects: &[Line], n: i32) -> bool
     ensures { result ≡ the.is_settling_alone n (the.whats effects.now) }
 {
@@ -150,7 +150,7 @@ pub fn is_settling_alone(effects: &[Line], n: i32) -> bool
     }
 }
 
-/// Whether one builds an actor of a protocol that has not fallen.
+/// Whether an effect builds an actor of a protocol that has not fallen.
 fn is_birth(what: &What, fallen: &NumberList, protocol: u32) -> bool
     ensures { result ≡ the.is_birth fallen.now protocol what.now }
 {
@@ -160,7 +160,7 @@ fn is_birth(what: &What, fallen: &NumberList, protocol: u32) -> bool
     }
 }
 
-/// Whether that is the only one.
+/// Whether the only effect builds it.
 pub fn is_birth_alone(effects: &[Line], fallen: &NumberList, protocol: u32) -> bool
     ensures { result ≡ the.is_birth_alone fallen.now protocol (the.whats effects.now) }
 {
@@ -170,14 +170,14 @@ pub fn is_birth_alone(effects: &[Line], fallen: &NumberList, protocol: u32) -> b
     }
 }
 
-/// Whether a line is an answer by which a resolver is let go.
+/// Whether a line is the answer for a destroyed resolver.
 fn lets_go(what: &What) -> bool
     ensures { result ≡ lets_go what.now }
 {
     matches!(what, What::AnswerFault(_, Reason::ResolverDestroyed))
 }
 
-/// Whether the birth is the only one, or stands after one answer by which a resolver is let go.
+/// Whether the only effect builds it, or the only one after an answer for a destroyed resolver.
 pub fn is_birth_last(effects: &[Line], fallen: &NumberList, protocol: u32) -> bool
     ensures { result ≡ the.is_birth_last fallen.now protocol (the.whats effects.now) }
 {

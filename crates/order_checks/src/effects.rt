@@ -231,7 +231,7 @@ fn is_top_returned(
     }
 }
 
-/// Whether a resolver that a name held is let go.
+/// Whether a resolver that a name held is dropped.
 fn is_let_go(what: &What, answered: &NumberList, name: &Name, effects: &[Line]) -> bool
     ensures { result ≡ the.is_let_go answered.now name.now (the.whats effects.now) what.now }
 {
@@ -275,7 +275,7 @@ fn are_let_go(
         .all(|line| is_let_go_at(line, side, answered, name, effects))
 }
 
-/// Whether a name that gets something else lets go what it held.
+/// Whether a name that gets something else drops what it held.
 fn is_renamed_right(
     side: Side,
     own: &EndReading<'_>,
@@ -308,12 +308,12 @@ pub fn effects_line(
     answered: &NumberList,
     before: &[Line],
     what: &What,
-    behind: &[Line],
+    following: &[Line],
 ) -> bool
     requires { IsSound schema.now }
-    ensures { result ≡ the.effects_line schema.now side (end_view own.now) answered.now before.now what.now behind.now }
+    ensures { result ≡ the.effects_line schema.now side (end_view own.now) answered.now before.now what.now following.now }
 {
-    let effects = effects_next(behind);
+    let effects = effects_next(following);
     match what {
         What::Send(_, route, number, _) | What::Call(_, _, route, number, _) => {
             is_sent_right(schema, own, *route, *number, effects)

@@ -5,14 +5,14 @@ ghost use Rattle.ipdl_base.specs.Sound.{IsSound};
 ghost use Rattle.history_reading.specs.EndReadings.{end_view};
 ghost use Rattle.history_reading.specs.Numbers.{same_packet};
 ghost use Rattle.history_reading.specs.Still as still;
-ghost use Rattle.law_checks.specs.Deferrals.{deferral_view};
+ghost use Rattle.reading_checks.specs.Deferrals.{deferral_view};
 ghost use Rattle.order_statements.specs.Order as order;
 ghost use Rattle.order_checks.specs.OrderTests as the;
 
 use history_reading::{EndReading, PacketKind};
 use ipdl_base::{Level, Schema, Side, What};
-use law_checks::{DeferralState, deferral_of, defers_packet, request_head};
 use nesting_core::Head;
+use reading_checks::{DeferralState, deferral_of, defers_packet, request_head};
 
 /// What deferral looks at of a packet.
 #[derive(Clone, Copy)]

@@ -1,4 +1,4 @@
-//! What the rows of a schema say of a message.
+//! The properties of messages, by the rows of a schema.
 ghost use Rattle.std.specs.Prelude.{◌≡◌};
 ghost use Rattle.ipdl_base.specs.Sound.{IsSound};
 ghost use Rattle.history_reading.specs.Rows as rows;
@@ -68,7 +68,7 @@ pub fn is_destructor(schema: &Schema, number: u32) -> bool
     }
 }
 
-/// The protocol of the actor that a message makes.
+/// Returns the protocol of the actor that a message makes.
 fn protocol_made(kind: Kind) -> Option<u32>
     ensures { result ≡ shape.protocol_made kind }
 {
@@ -78,7 +78,7 @@ fn protocol_made(kind: Kind) -> Option<u32>
     }
 }
 
-/// The protocol of the actor that the message of a number makes.
+/// Returns the protocol of the actor that the message of a number makes.
 pub fn constructor_of(schema: &Schema, number: u32) -> Option<u32>
     requires { IsSound schema.now }
     ensures { result ≡ shape.constructor_of schema.now number }

@@ -1,4 +1,4 @@
-//! What waits at each end, after the lines so far.
+//! The packets that wait at each end, after the lines so far.
 ghost use Rattle.std.specs.Prelude.{◌≡◌, ◌∷◌, ◌++◌, [], OnOk, List, if◌then◌else◌, not, option_map};
 ghost use Rattle.std.specs.List.{filter};
 ghost use Rattle.ipdl_base.specs.declared.line.Line as declared;
@@ -36,7 +36,7 @@ fn is_sync_request(own: &EndReading<'_>, n: i32) -> bool
     }
 }
 
-/// What passes where a reply is delivered: that to a sync request does not wait.
+/// Returns the passing of a delivered reply: the reply to a sync request does not wait.
 fn reply_passing(own: &EndReading<'_>, n: i32) -> Option<Passing>
     ensures { (schema : Schema) (told : List said.What) → (end_view own.now).sent ≡ sent schema told → option_map passing_view result ≡ passing schema told (what.DeliverReply n) }
 {
@@ -47,7 +47,7 @@ fn reply_passing(own: &EndReading<'_>, n: i32) -> Option<Passing>
     }
 }
 
-/// What passes by a line.
+/// Returns the passing of a line.
 fn passing_of(own: &EndReading<'_>, what: &What) -> Option<Passing>
     ensures { (schema : Schema) (told : List said.What) → (end_view own.now).sent ≡ sent schema told → option_map passing_view result ≡ passing schema told what.now }
 {
@@ -65,14 +65,14 @@ fn passing_of(own: &EndReading<'_>, what: &What) -> Option<Passing>
     }
 }
 
-/// A packet leaves.
+/// Removes a packet.
 fn remove(packets: &mut Vec<PacketKind>, packet: PacketKind)
     ensures { packets.new.items ≡ filter (λ p. not (same_packet p packet)) packets.old.items }
 {
     packets.retain(|one| !one.same(&packet));
 }
 
-/// What waits after one more passing.
+/// Returns the waiting packets after one more passing.
 fn pass(packets: &mut Vec<PacketKind>, passing: Passing) -> Result<(), AllocError>
     ensures { OnOk result (packets.new.items ≡ waiting_after (passing_view passing) packets.old.items) }
 {
@@ -92,7 +92,7 @@ pub struct WaitingPackets {
 }
 
 impl WaitingPackets {
-    /// Those of no lines. Takes no memory.
+    /// Returns the packets after no lines. Takes no memory.
     pub fn new(alloc: Global) -> WaitingPackets
         ensures { (schema : Schema) → AreWaiting schema [] result }
     {
@@ -102,7 +102,7 @@ impl WaitingPackets {
         }
     }
 
-    /// Those that wait at an end.
+    /// Returns the packets that wait at an end.
     pub fn of(&self, side: Side) -> &[PacketKind]
         ensures { result.now ≡ packets_of side self.now }
     {
@@ -112,7 +112,7 @@ impl WaitingPackets {
         }
     }
 
-    /// At an end, something passes.
+    /// Notes a passing at an end.
     fn pass(&mut self, side: Side, passing: Passing) -> Result<(), AllocError>
         ensures { OnOk result ((end : Side) → packets_of end self.new ≡ (if same_side side end then waiting_after (passing_view passing) (packets_of end self.old) else packets_of end self.old)) }
     {
@@ -122,7 +122,7 @@ impl WaitingPackets {
         }
     }
 
-    /// One more line is read, after what was read of its end.
+    /// Reads one more line, after what was read of its end.
     pub fn note(&mut self, own: &EndReading<'_>, line: &Line) -> Result<(), AllocError>
         ensures { OnOk result ((schema : Schema) (lines : List declared.Line) → end_view own.now ≡ end_reading_of line.now.side (read schema lines) → AreWaiting schema lines self.old → AreWaiting schema (lines ++ line.now ∷ []) self.new) }
     {

@@ -42,12 +42,12 @@ fn line_test(
     waiting: &WaitingPackets,
     before: &[Line],
     line: &Line,
-    behind: &[Line],
+    following: &[Line],
 ) -> bool
     requires { IsSound schema.now }
     ensures { result ≡ the.line_test statement schema.now line.now.side
         (end_reading_of line.now.side (reading_view reading.now))
-        (other_of line.now.side (reading_view reading.now)) (numbers_of line.now.side answered.now) (packets_of line.now.side waiting.now) before.now line.now.what behind.now }
+        (other_of line.now.side (reading_view reading.now)) (numbers_of line.now.side answered.now) (packets_of line.now.side waiting.now) before.now line.now.what following.now }
 {
     let own = reading.end(line.side);
     let other = reading.other(line.side);
@@ -64,10 +64,12 @@ fn line_test(
             )
         }
         Statement::Effects => {
-            effects_line(schema, line.side, own, numbers, before, &line.what, behind)
+            effects_line(
+                schema, line.side, own, numbers, before, &line.what, following,
+            )
         }
         Statement::Answers => answers_line(
-            schema, line.side, own, other, numbers, before, &line.what, behind,
+            schema, line.side, own, other, numbers, before, &line.what, following,
         ),
     }
 }
@@ -89,9 +91,9 @@ fn all_pass<'h>(
 {
     for (index, line) in lines.iter().enumerate() {
         let before = &lines[..index];
-        let behind = &lines[index + 1..];
+        let following = &lines[index + 1..];
         if !line_test(
-            statement, schema, reading, answered, waiting, before, line, behind,
+            statement, schema, reading, answered, waiting, before, line, following,
         ) {
             return Ok(false);
         }

@@ -29,7 +29,7 @@ use Rattle.channel_model.specs.Names.{held_by_name, let_go, renamed, without_nam
 use Rattle.channel_model.specs.Numbers.{counting, request_row, is_sync_row, makes_promise}
 use Rattle.channel_model.specs.Outputs.{Output, Change, ◌▷◌, beginning, is_open, when, on_end, line, AnsweredRequest, answered, resolver_answered, destroyed}
 use Rattle.channel_model.specs.Parts
-use Rattle.channel_model.specs.Parts.{DeliveryPart, end_behind, farewell_item}
+use Rattle.channel_model.specs.Parts.{DeliveryPart, end_after, farewell_item}
 use Rattle.channel_model.specs.Phases.{Phase}
 use Rattle.channel_model.specs.Returns as returns
 use Rattle.channel_model.specs.Runs.{is_delivery, output_of, passed_by, happens, run}
@@ -41,7 +41,8 @@ use Rattle.channel_model.proofs.Provided.{provided-gives, found-gives}
 use Rattle.channel_model.proofs.StepParts.{steps_are_made_of_parts}
 use Rattle.channel_laws.proofs.ArrivalParts.{staying-all}
 use Rattle.channel_laws.proofs.Replacing.{Replaces, replaced-taken}
-use Rattle.order_laws.specs.Order.{packet_of, ArrivesLast, passes, arrives, replaces, StaysOrEnds, ChangesArrivals, IsSubsequence, nothing, both, without, is_side, delivered_when, delivered_by, delivered_to, ArrivalsKeepTheirOrder}
+use Rattle.ipdl_base.specs.Lines.{same_side}
+use Rattle.order_laws.specs.Order.{packet_of, ArrivesLast, passes, arrives, replaces, StaysOrEnds, ChangesArrivals, IsSubsequence, nothing, both, without, delivered_when, delivered_by, delivered_to, ArrivalsKeepTheirOrder}
 use Rattle.order_laws.proofs.Takes.{step-takes}
 
 -- Changes that leave the items that have arrived as they are
@@ -128,9 +129,9 @@ module _ (e : End) where
 
 -- Deliveries
 
-behind-arrived : (b : Bool) (e : End) → (end_behind b e).arrived ≡ e.arrived
-behind-arrived true e = refl
-behind-arrived false e = refl
+following-arrived : (b : Bool) (e : End) → (end_after b e).arrived ≡ e.arrived
+following-arrived true e = refl
+following-arrived false e = refl
 
 farewell-packet : (packet : Packet) → packet_of (farewell_item packet) ≡ packet
 farewell-packet (message m) = refl
@@ -144,7 +145,7 @@ delivery-arrives {e} (Parts.replaces m row vs old sync level replies body found 
     let new : Item = delivery.item_of row m in
     let r : Replaces row.compress new e.arrived (item.Message old sync level) = replaced-taken row.compress new e.arrived (item.Message old sync level) rep in
     replaces new (item.Message old sync level) r.taken.front r.taken.back refl r.alike r.taken.whole
-    (behind-arrived replies (delivery.counted row new e) ∙ ap (λ (items : List Item). items ++ new ∷ []) r.taken.left)
+    (following-arrived replies (delivery.counted row new e) ∙ ap (λ (items : List Item). items ++ new ∷ []) r.taken.left)
 delivery-arrives (Parts.gets_answer m row a body found sync) = passes refl
 delivery-arrives (Parts.gets_reply m row a body found async) = arrives (delivery.item_of row m) refl refl
 delivery-arrives (Parts.drains packet is) = arrives (farewell_item packet) (farewell-packet packet) refl
@@ -255,7 +256,7 @@ module _ (e : End) (link : List Packet) (output : Output) (ds : List Packet) (h 
 
 module _ (schema : Schema) where
   move-order : (side mover : Side) (ev : Event) (w : World) (found : Option Output) (ds : List Packet) → output_of schema w (record { side = mover; event = ev }) ≡ found → IsSubsequence (shown (end_of side w).arrived) ds
-      → IsSubsequence (shown (end_of side (passed_by found (record { side = mover; event = ev }) w).world).arrived) (ds ++ cond (is_side side mover) (delivered_when found ev (link_to mover w)) [])
+      → IsSubsequence (shown (end_of side (passed_by found (record { side = mover; event = ev }) w).world).arrived) (ds ++ cond (same_side side mover) (delivered_when found ev (link_to mover w)) [])
   move-order Parent Parent ev w None ds is h = some-more [] h
   move-order Parent Child ev w None ds is h = some-more [] h
   move-order Child Parent ev w None ds is h = some-more [] h

@@ -1,4 +1,4 @@
--- Which effects an event has to have.
+-- The effects that an event must have.
 use Rattle.std.proofs.Common.{◌≡◌, inl, inr, ℕ, ◌+◌, ℤ, pos, Bool, true, false, not, ◌&&◌, cond, if◌then◌else◌, List, [], ◌∷◌, ◌++◌, find, map, Option, Some, None, option_and_then, refl, sym, ap, subst, ◌∙◌, append_assoc}
 use Rattle.std.specs.List.{AllByRecursion, flat_map}
 use Rattle.std.specs.Option.{option_map_or}
@@ -43,7 +43,7 @@ use Rattle.channel_model.specs.Falls as falls
 use Rattle.channel_model.specs.Names.{held_by_name, let_go, renamed, without_name}
 use Rattle.channel_model.specs.Numbers.{request_row, is_sync_row, makes_promise, counting}
 use Rattle.channel_model.specs.Outputs.{Output, Change, ◌▷◌, beginning, unchanged, is_open, line_at, when, on_end, line, put, AnsweredRequest, request_answered, resolver_answered, answered, answer_line, body_of, reply_to}
-use Rattle.channel_model.specs.Parts.{left_end, reply_lines, reply_packets, end_behind, owes_reply, reply_outcome}
+use Rattle.channel_model.specs.Parts.{left_end, reply_lines, reply_packets, end_after, owes_reply, reply_outcome}
 use Rattle.channel_model.specs.Returns as returns
 use Rattle.channel_model.specs.Sends as sends
 use Rattle.channel_model.specs.Steps.{step, provided, first_packet}
@@ -91,15 +91,15 @@ module _ (q : AnsweredRequest) (a : Answer) (o : Output) where
       by true = sym (append-nil o.packets)
       by false = sym (append-nil o.packets)
 
-  answered-end : (b : Bool) → (when b (answered q a) o).end ≡ end_behind (is_open o.end.state && b) o.end
+  answered-end : (b : Bool) → (when b (answered q a) o).end ≡ end_after (is_open o.end.state && b) o.end
   answered-end true = by (is_open o.end.state)
     where
-      by : (c : Bool) → (when c (gives q a) o).end ≡ end_behind (c && true) o.end
+      by : (c : Bool) → (when c (gives q a) o).end ≡ end_after (c && true) o.end
       by true = refl
       by false = refl
   answered-end false = by (is_open o.end.state)
     where
-      by : (c : Bool) → o.end ≡ end_behind (c && false) o.end
+      by : (c : Bool) → o.end ≡ end_after (c && false) o.end
       by true = refl
       by false = refl
 
@@ -191,7 +191,7 @@ deleted id e o same =
 new-lives : (actors : List Actor) (new : Actor) → lives new.id (actors ++ new ∷ []) ≡ true
 new-lives actors new = lives-true new.id (actors ++ new ∷ []) (Has-last new.id actors new refl)
 
--- What a request does not change until its actor gets a name.
+-- What a request leaves unchanged until its actor gets a name.
 record Alike (o p : Output) : Type 0 where
   side : p.end.side ≡ o.end.side
   state : p.end.state ≡ o.end.state
@@ -424,7 +424,7 @@ replies_settle = record {
 
 -- Returns
 
--- What an event has said and put so far, at an end whose actors and promises are as they were.
+-- What an event has printed and sent so far, at an end whose actors and promises are as they were.
 record Stands (e : End) (whats : List What) (put_so_far : List Packet) (o : Output) : Type 0 where
   side : o.end.side ≡ e.side
   state : o.end.state ≡ e.state
@@ -433,32 +433,32 @@ record Stands (e : End) (whats : List What) (put_so_far : List Packet) (o : Outp
   lines : o.lines ≡ map (line_at e.side) whats
   packets : o.packets ≡ put_so_far
 
-behind-side : (b : Bool) (e : End) → (end_behind b e).side ≡ e.side
-behind-side true e = refl
-behind-side false e = refl
+following-side : (b : Bool) (e : End) → (end_after b e).side ≡ e.side
+following-side true e = refl
+following-side false e = refl
 
-behind-state : (b : Bool) (e : End) → (end_behind b e).state ≡ e.state
-behind-state true e = refl
-behind-state false e = refl
+following-state : (b : Bool) (e : End) → (end_after b e).state ≡ e.state
+following-state true e = refl
+following-state false e = refl
 
-behind-actors : (b : Bool) (e : End) → (end_behind b e).actors ≡ e.actors
-behind-actors true e = refl
-behind-actors false e = refl
+following-actors : (b : Bool) (e : End) → (end_after b e).actors ≡ e.actors
+following-actors true e = refl
+following-actors false e = refl
 
-behind-promises : (b : Bool) (e : End) → (end_behind b e).promises ≡ e.promises
-behind-promises true e = refl
-behind-promises false e = refl
+following-promises : (b : Bool) (e : End) → (end_after b e).promises ≡ e.promises
+following-promises true e = refl
+following-promises false e = refl
 
 stands-answered : (e : End) (whats : List What) (ps : List Packet) (o : Output) (b : Bool) (q : AnsweredRequest) (a : Answer) → Stands e whats ps o
     → Stands e (whats ++ reply_lines (is_open e.state && b) q a) (ps ++ reply_packets (is_open e.state && b) o.end q a) (when b (answered q a) o)
 stands-answered e whats ps o b q a h =
     let c : Bool = is_open o.end.state && b in
-    let after : (when b (answered q a) o).end ≡ end_behind c o.end = answered-end q a o b in
+    let after : (when b (answered q a) o).end ≡ end_after c o.end = answered-end q a o b in
     record {
-      side = ap (λ (f : End). f.side) after ∙ (behind-side c o.end ∙ h.side);
-      state = ap (λ (f : End). f.state) after ∙ (behind-state c o.end ∙ h.state);
-      actors = ap (λ (f : End). f.actors) after ∙ (behind-actors c o.end ∙ h.actors);
-      promises = ap (λ (f : End). f.promises) after ∙ (behind-promises c o.end ∙ h.promises);
+      side = ap (λ (f : End). f.side) after ∙ (following-side c o.end ∙ h.side);
+      state = ap (λ (f : End). f.state) after ∙ (following-state c o.end ∙ h.state);
+      actors = ap (λ (f : End). f.actors) after ∙ (following-actors c o.end ∙ h.actors);
+      promises = ap (λ (f : End). f.promises) after ∙ (following-promises c o.end ∙ h.promises);
       lines = answered-lines q a o b
           ∙ (ap (λ (state : EndState). o.lines ++ map (line_at o.end.side) (reply_lines (is_open state && b) q a)) h.state
           ∙ (ap (λ (side : Side). o.lines ++ map (line_at side) (reply_lines (is_open e.state && b) q a)) h.side
@@ -519,7 +519,7 @@ module _ (schema : Schema) (e : End) (entry : StackEntry) (row : MessageRow) (vs
   off-packets true = refl
   off-packets false = refl
 
-  lost-packets : (b c : Bool) → reply_packets c (end_behind b off.end) rs (answer.Fault ResolverDestroyed) ≡ reply_packets c (end_behind b e) rs (answer.Fault ResolverDestroyed)
+  lost-packets : (b c : Bool) → reply_packets c (end_after b off.end) rs (answer.Fault ResolverDestroyed) ≡ reply_packets c (end_after b e) rs (answer.Fault ResolverDestroyed)
   lost-packets true true = refl
   lost-packets true false = refl
   lost-packets false true = refl
@@ -527,7 +527,7 @@ module _ (schema : Schema) (e : End) (entry : StackEntry) (row : MessageRow) (vs
 
   return-lines : HasLines e (returns.return schema e row entry vs (beginning e))
       (what.Return (head_of entry.frame).seq ∷ (reply_lines told qs an ++ (reply_lines lost rs (answer.Fault ResolverDestroyed) ++ deleted_lines row.kind entry.route e)))
-      (reply_packets told e qs an ++ reply_packets lost (end_behind told e) rs (answer.Fault ResolverDestroyed))
+      (reply_packets told e qs an ++ reply_packets lost (end_after told e) rs (answer.Fault ResolverDestroyed))
   return-lines =
       let s = stands-losing in
       let f : Answer = answer.Fault ResolverDestroyed in
@@ -637,7 +637,7 @@ due_answers_are_given = record {
   returns = λ schema e link entry row vs output top found is.
       return-gives (λ o. HasLines e o
       (what.Return (head_of entry.frame).seq ∷ (reply_lines (told schema e entry row vs) (qs schema e entry row vs) (an schema e entry row vs) ++ (reply_lines (lost schema e entry row vs) (rs schema e entry row vs) (answer.Fault ResolverDestroyed) ++ deleted_lines row.kind entry.route e)))
-      (reply_packets (told schema e entry row vs) e (qs schema e entry row vs) (an schema e entry row vs) ++ reply_packets (lost schema e entry row vs) (end_behind (told schema e entry row vs) e) (rs schema e entry row vs) (answer.Fault ResolverDestroyed)))
+      (reply_packets (told schema e entry row vs) e (qs schema e entry row vs) (an schema e entry row vs) ++ reply_packets (lost schema e entry row vs) (end_after (told schema e entry row vs) e) (rs schema e entry row vs) (answer.Fault ResolverDestroyed)))
       schema e link entry row vs output top found is (return-lines schema e entry row vs);
   names = λ schema e link name id output is. name-lines schema e link name id output is;
   keeps = λ schema e link seq name output is. keep-lines schema e link seq name output is;

@@ -14,7 +14,7 @@ use Rattle.ipdl_base.specs.declared.message.Message.{Message}
 use Rattle.ipdl_base.specs.declared.schema.Schema.{Schema}
 use Rattle.ipdl_base.specs.Sound.{IsSound}
 use Rattle.nesting_core.specs.Top.{top_of}
-use Rattle.pending_queue.specs.Holding.{is_free}
+use Rattle.pending_queue.specs.DeferralContext.{is_free}
 use Rattle.pending_queue.specs.declared.item.Item.{Item}
 use Rattle.pending_queue.specs.declared.item.Item.TheVariants as item
 use Rattle.history_reading.specs.Reading.{end_reading_of, opening_reading}
@@ -37,7 +37,7 @@ use Rattle.channel_laws.proofs.Runs.{AtEnds, RunKeeps, every-run}
 use Rattle.order_laws.specs.Order.{FirstLine, IsTakeOf, IsTakeOfBody, IsShut, TakesLast, FarewellsAreTakenLast}
 use Rattle.order_laws.proofs.Takes.{step-taken, takes-first, item-told}
 
--- in every run an end has the actors that its lines tell, and is as its state says
+-- in every run an end has the actors that its lines show, and is as its state requires
 pub reads-in-run : (schema : Schema) → IsSound schema → (top : ℕ) (moves : List Move) (side : Side) → ReadsActors schema (end_of side (world_of schema top moves)) (end_reading_of side (read_from schema opening_reading (history_of schema top moves)))
 reads-in-run schema sound top moves side = by side
   where
@@ -86,8 +86,8 @@ never false h k = cc
 farewell-last : (e : End) (x : Item) → IsInState e → takes.taken_next e ≡ Some x → is_farewell x ≡ true → TakesLast e
 farewell-last e x h next farewell = by e.state refl h.arrived
   where
-    f : FirstTaken (is_free (takes.holding_of e)) e.arrived x
-    f = first-taken (is_free (takes.holding_of e)) e.arrived x (taken-first e x next)
+    f : FirstTaken (is_free (takes.deferral_context_of e)) e.arrived x
+    f = first-taken (is_free (takes.deferral_context_of e)) e.arrived x (taken-first e x next)
 
     nothing-taken : (state : EndState) → e.state ≡ state → takes.takes_in_state state ≡ false → TakesLast e
     nothing-taken state is none =

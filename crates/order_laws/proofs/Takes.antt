@@ -25,7 +25,7 @@ use Rattle.nesting_core.specs.declared.frame.StackFrame.TheVariants.{Dispatch, W
 use Rattle.nesting_core.specs.Deferral.{awaited_level, inner_transaction}
 use Rattle.pending_queue.specs.declared.item.Item.{Item}
 use Rattle.pending_queue.specs.declared.item.Item.TheVariants as item
-use Rattle.pending_queue.specs.Holding.{arrival_of, defers_item, is_free}
+use Rattle.pending_queue.specs.DeferralContext.{arrival_of, defers_item, is_free}
 use Rattle.promise_table.specs.declared.promise.Outcome.{Outcome}
 use Rattle.channel_model.specs.Ends.{End, Packet, message}
 use Rattle.channel_model.specs.Events as event
@@ -109,9 +109,9 @@ not-true : (b : Bool) → not b ≡ false → b ≡ true
 not-true true h = refl
 not-true false h = cc
 
-all-deferred : (e : End) (items : List Item) → AllByRecursion (λ y. is_free (takes.holding_of e) y ≡ false) items → AllByRecursion (λ y. defers_item (takes.holding_of e) y ≡ true) items
+all-deferred : (e : End) (items : List Item) → AllByRecursion (λ y. is_free (takes.deferral_context_of e) y ≡ false) items → AllByRecursion (λ y. defers_item (takes.deferral_context_of e) y ≡ true) items
 all-deferred e [] h = tt
-all-deferred e (x ∷ items) h = (not-true (defers_item (takes.holding_of e) x) h.0, all-deferred e items h.1)
+all-deferred e (x ∷ items) h = (not-true (defers_item (takes.deferral_context_of e) x) h.0, all-deferred e items h.1)
 
 pub step-taken : (schema : Schema) (e : End) (link : List Packet) (output : Output) → step schema e link event.take ≡ Some output → (x : Item) × (takes.taken_next e ≡ Some x) × (takes.take schema x (beginning e) ≡ output)
 step-taken schema e link output is =
@@ -120,14 +120,14 @@ step-taken schema e link output is =
 
 pub item-takes : (schema : Schema) (e : End) (x : Item) → takes.taken_next e ≡ Some x → TakesFreeItem e (takes.take schema x (beginning e))
 item-takes schema e x next =
-    let f : FirstTaken (is_free (takes.holding_of e)) e.arrived x = first-taken (is_free (takes.holding_of e)) e.arrived x (taken-first e x next) in
+    let f : FirstTaken (is_free (takes.deferral_context_of e)) e.arrived x = first-taken (is_free (takes.deferral_context_of e)) e.arrived x (taken-first e x next) in
     let t = item-told schema x e in
     record {
       taken = x;
       older = f.taken.front;
       younger = f.taken.back;
       arrived = f.taken.whole;
-      free = not-false (defers_item (takes.holding_of e) x) f.passes;
+      free = not-false (defers_item (takes.deferral_context_of e) x) f.passes;
       deferred = all-deferred e f.taken.front f.others;
       told = t.first;
       left = t.arrived ∙ ap (λ (items : List Item). cond (is_farewell x) [] items) f.taken.left;
@@ -145,12 +145,12 @@ no-level (Wait head None ∷ below) h = let k : true ≡ false = h.0 in cc
 no-level (Wait head (Some a) ∷ below) h = refl
 
 -- an end that waits for no answer defers nothing
-pub all-free : (e : End) (x : Item) → AllByRecursion IsAnswered (frames_of e) → is_free (takes.holding_of e) x ≡ true
+pub all-free : (e : End) (x : Item) → AllByRecursion IsAnswered (frames_of e) → is_free (takes.deferral_context_of e) x ≡ true
 all-free e x h = ap (λ (level : Option Level). not (defers_arrival e.side level (Some (unwrap_or (inner_transaction (frames_of e)) (pos 0))) (arrival_of x))) (no-level (frames_of e) h)
 
 pub takes-first : (e : End) (x first : Item) (rest : List Item) → AllByRecursion IsAnswered (frames_of e) → e.arrived ≡ first ∷ rest → takes.taken_next e ≡ Some x → first ≡ x
 takes-first e x first rest answered arrived next =
-    let test : Item → Bool = is_free (takes.holding_of e) in
+    let test : Item → Bool = is_free (takes.deferral_context_of e) in
     let found : find test (first ∷ rest) ≡ Some x = ap (find test) (sym arrived) ∙ taken-first e x next in
     let there : find test (first ∷ rest) ≡ Some first = ap (λ (b : Bool). cond b (Some first) (find test rest)) (all-free e first answered) in
     same_Some first x (sym there ∙ found)

@@ -37,7 +37,7 @@ called_back =
 younger_first : (happens calling (world_of calling 0 called_back) (parent event.take)).lines ≡ line_at Parent (what.Take (negsuc 1) top ask Nothing) ∷ []
 younger_first = refl
 
--- So an end that waits need not take the oldest, not even of one kind and level.
+-- So an end that waits may take an item that is not the oldest, even of the oldest item's kind and level.
 oldest_may_stay : ((schema : Schema) (e : End) (link : List Packet) (output : Output) (first : Item) (rest : List Item) → e.arrived ≡ first ∷ rest → step schema e link event.take ≡ Some output → FirstLine (IsTakeOf first) output.lines) → ⊥
 oldest_may_stay h = let k : negsuc 1 ≡ negsuc 0 = (h calling (world_of calling 0 called_back).parent [] _ _ _ refl refl).0 in cc
 
@@ -59,6 +59,6 @@ kept_first =
     ∷ parent event.take
     ∷ parent (event.keep (negsuc 0) (codes "a")) ∷ []
 
--- A constructor is sent under a name that held a resolver: the resolver is answered, and the actor is built.
+-- A constructor is sent under a name that had a resolver: the resolver is answered, and the actor is built.
 makes_one : (output : Output) → step making (world_of making 0 kept_first).parent [] (event.send top 2 Nothing (Some (codes "a"))) ≡ Some output → Builds (world_of making 0 kept_first).parent output (what.Call (pos 1) (pos 1) top 2 Nothing) (what.AnswerFault (negsuc 0) ResolverDestroyed ∷ []) (pos 6) 1 top
 makes_one output is = constructors_build.sends making (world_of making 0 kept_first).parent [] _ top 2 Nothing (Some (codes "a")) 1 output (record { found = refl; accepted = refl }) refl is

@@ -1,4 +1,5 @@
--- Which effects an event has to have: actors that it builds or that fall, answers that it gives, and promises that it settles.
+-- The effects that an event must have: actors that it builds or that fall, answers that it gives, and promises that
+-- it settles.
 use Rattle.std.specs.Prelude.{◌≡◌, ℕ, ℤ, pos, Bool, true, false, ◌&&◌, if◌then◌else◌, ◌⊎◌, List, [], ◌∷◌, ◌++◌, find, map, Option, Some, None, option_and_then}
 use Rattle.std.specs.List.{AllByRecursion}
 use Rattle.actor_tree.specs.declared.actor.Actor.{Actor}
@@ -35,7 +36,7 @@ use Rattle.channel_model.specs.Falls.{why_deleted}
 use Rattle.channel_model.specs.Names.{held_by_name}
 use Rattle.channel_model.specs.Numbers.{request_row, is_sync_row, makes_promise}
 use Rattle.channel_model.specs.Outputs.{Output, is_open, line_at, request_answered, resolver_answered, body_of}
-use Rattle.channel_model.specs.Parts.{reply_lines, reply_packets, end_behind, fall_lines, owes_reply, reply_outcome}
+use Rattle.channel_model.specs.Parts.{reply_lines, reply_packets, end_after, fall_lines, owes_reply, reply_outcome}
 use Rattle.channel_model.specs.Returns.{dispatch_on_top, dispatch_answered, return_answer}
 use Rattle.channel_model.specs.Sends.{send_refusal, send_line, request_of}
 use Rattle.channel_model.specs.Steps.{step, first_packet}
@@ -43,7 +44,7 @@ use Rattle.channel_model.specs.Takes.{taken_next, dropped_for, is_awaited, settl
 use Rattle.channel_model.specs.ValueActors.{nulled}
 use Rattle.channel_laws.specs.Laws.{world_of}
 
--- the lines and packets of an output, at the end that an event began with
+-- the lines and packets of an output, at the end where the event began
 pub record HasLines (e : End) (output : Output) (whats : List What) (packets : List Packet) : Type 0 where
   pub said : output.lines ≡ map (line_at e.side) whats
   pub sent : output.packets ≡ packets
@@ -63,13 +64,13 @@ pub record SendsRequest (schema : Schema) (e : End) (row : MessageRow) (route : 
 
 -- Destructors
 
--- An actor does not live after an event, and neither does any of its subtree.
+-- An actor does not live after an event, and no actor of its subtree does.
 pub record IsDeleted (id : ℤ) (e : End) (output : Output) : Type 0 where
   pub gone : lives id output.end.actors ≡ false
   pub below : AllByRecursion (λ a. lives a.id output.end.actors ≡ false) (post_order id e.actors)
 
--- After the send of a destructor that is not refused, its actor and its subtree do not live at that end; after the handler of
--- one has returned, they do not live at the other.
+-- After a destructor is sent and not refused, its actor and its subtree do not live at that end. After the handler of
+-- a destructor has returned, they do not live at the other end.
 pub record DestructorsDelete : Type 0 where
   pub sends : (schema : Schema) (e : End) (link : List Packet) (row : MessageRow) (route : ℤ) (number : ℕ) (vs : Values) (name : Option (List ℕ)) (output : Output)
       → SendsRequest schema e row route number vs → row.kind ≡ Delete → step schema e link (event.send route number vs name) ≡ Some output → IsDeleted route e output
@@ -80,13 +81,14 @@ pub record DestructorsDelete : Type 0 where
 abbrev pub IsManaged : List Actor → Actor → Type 0
 IsManaged actors a = (a ≡ top a.protocol) ⊎ (lives a.manager actors ≡ true)
 
--- In every run each living actor is the top one, or its manager lives. So nobody lives below an actor that does not.
+-- In every run each living actor is the top one, or its manager lives. So no actor lives below an actor that does
+-- not.
 abbrev pub ManagersLive : Type 0
 ManagersLive = (schema : Schema) → IsSound schema → (protocol : ℕ) (moves : List Move) (side : Side) → AllByRecursion (IsManaged (end_of side (world_of schema protocol moves)).actors) (end_of side (world_of schema protocol moves)).actors
 
 -- Constructors
 
--- the lines of what a name lets go: a resolver is answered where the end is open
+-- the lines for a content that a name loses: a resolver is answered where the end is open
 abbrev pub let_go_lines : Bool → Option NameContent → List What
 let_go_lines b None = []
 let_go_lines b (Some (actor id)) = []
@@ -97,18 +99,19 @@ let_go_packets b e None = []
 let_go_packets b e (Some (actor id)) = []
 let_go_packets b e (Some (resolver r)) = reply_packets b e (resolver_answered r) (answer.Fault ResolverDestroyed)
 
--- what a name holds, where there is one
+-- the content of a name, if there is a name and it has one
 abbrev pub held_by : Option (List ℕ) → End → Option NameContent
 held_by name e = option_and_then (λ name. held_by_name name e.names) name
 
--- An event has its own line, the answer for what a name lets go, and the line of this one actor, and no other. The actor
--- comes last of those that live, and is the only change of them.
+-- An event has its own line, the answer for what a name loses, and the line of this one actor, and no other. The
+-- actor comes last of those that live, and is the only change to them.
 pub record Builds (e : End) (output : Output) (first : What) (lost : List What) (id : ℤ) (protocol : ℕ) (route : ℤ) : Type 0 where
   pub lines : output.lines ≡ map (line_at e.side) (first ∷ (lost ++ what.Built id protocol ∷ []))
   pub actors : output.end.actors ≡ e.actors ++ record { id = id; protocol = protocol; manager = route } ∷ []
   pub alive : lives id output.end.actors ≡ true
 
--- The event that sends a constructor and is not refused, or takes one and does not drop it, builds its actor and no other.
+-- The event that sends a constructor and is not refused, or takes one and does not drop it, builds its actor and no
+-- other.
 pub record ConstructorsBuild : Type 0 where
   pub sends : (schema : Schema) (e : End) (link : List Packet) (row : MessageRow) (route : ℤ) (number : ℕ) (vs : Values) (name : Option (List ℕ)) (protocol : ℕ) (output : Output)
       → SendsRequest schema e row route number vs → row.kind ≡ Constructor protocol → step schema e link (event.send route number vs name) ≡ Some output
@@ -119,11 +122,11 @@ pub record ConstructorsBuild : Type 0 where
 
 -- Promises
 
--- the outcome of the promise of a number, where it was made and is settled
+-- the outcome of the promise of a number, if it was made and is settled
 abbrev pub outcome_in : ℤ → List PromiseEntry → Option Outcome
 outcome_in seq promises = option_and_then (λ entry. entry.promise.outcome) (find (λ entry. has_number seq entry.promise) promises)
 
--- A reply that is taken settles its promise where that is pending, as its one effect; otherwise it has no effect.
+-- A reply that is taken settles its promise if that is pending, as its one effect; otherwise it has no effect.
 pub record RepliesSettle : Type 0 where
   pub settles : (schema : Schema) (e : End) (link : List Packet) (m : Message) (sync : Bool) (level : Level) (row : MessageRow) (a : Answer) (output : Output)
       → taken_next e ≡ Some (item.Message m sync level) → m.body ≡ body_of a → message_of schema m.number ≡ Some row → is_awaited m.seq e.promises ≡ true → step schema e link event.take ≡ Some output
@@ -134,7 +137,7 @@ pub record RepliesSettle : Type 0 where
 
 -- Answers
 
--- the lines of a subtree that falls by the return of a destructor's handler
+-- the lines of a subtree that falls when a destructor's handler returns
 abbrev pub deleted_lines : Kind → ℤ → End → List What
 deleted_lines Normal route e = []
 deleted_lines (Constructor protocol) route e = []
@@ -143,10 +146,10 @@ deleted_lines Delete route e = fall_lines route (why_deleted route) e
 abbrev pub destroyed : Answer
 destroyed = answer.Fault ResolverDestroyed
 
--- An event answers each request that it owes an answer in that event, by a line and a packet, where its end is open, and
--- answers none at an end that is not. These are all lines and packets of these events.
+-- An event answers each request to which it owes an answer in that event, by a line and a packet, if its end is open,
+-- and answers none at an end that is not open. These are all lines and packets of these events.
 pub record DueAnswersAreGiven : Type 0 where
-  -- the drop of a request that owes a reply
+  -- the drop of a request that needs a reply
   pub drops : (schema : Schema) (e : End) (link : List Packet) (m : Message) (row : MessageRow) (vs : Values) (id : ℤ) (output : Output)
       → TakesRequest schema e m row vs → dropped_for schema e row m vs ≡ Some id → step schema e link event.take ≡ Some output
       → HasLines e output (what.Drop m.seq m.route m.number id ∷ reply_lines (is_open e.state && owes_reply row) (request_answered m) (answer.Fault ActorDestroyed))
@@ -164,8 +167,8 @@ pub record DueAnswersAreGiven : Type 0 where
       ++ (reply_lines (is_open e.state && entry.resolves) (resolver_answered (resolver_in entry)) destroyed
       ++ deleted_lines row.kind entry.route e)))
       (reply_packets (is_open e.state && is_sync_row row) e (dispatch_answered entry) (return_answer schema e row entry vs)
-      ++ reply_packets (is_open e.state && entry.resolves) (end_behind (is_open e.state && is_sync_row row) e) (resolver_answered (resolver_in entry)) destroyed)
-  -- a name that gets something else, and held a resolver
+      ++ reply_packets (is_open e.state && entry.resolves) (end_after (is_open e.state && is_sync_row row) e) (resolver_answered (resolver_in entry)) destroyed)
+  -- a name that gets a new content, and was for a resolver
   pub names : (schema : Schema) (e : End) (link : List Packet) (name : List ℕ) (id : ℤ) (output : Output) → step schema e link (event.name name id) ≡ Some output
       → HasLines e output (what.Let name (if is_positive id then id else pos 0) ∷ let_go_lines (is_open e.state) (held_by_name name e.names)) (let_go_packets (is_open e.state) e (held_by_name name e.names))
   pub keeps : (schema : Schema) (e : End) (link : List Packet) (seq : ℤ) (name : List ℕ) (output : Output) → step schema e link (event.keep seq name) ≡ Some output
@@ -173,13 +176,13 @@ pub record DueAnswersAreGiven : Type 0 where
 
 -- Refusals
 
--- An act was refused: it has this one line, and the end and what it sends are as they were.
+-- An act was refused: it prints this one line, and the end and what it sends are as they were.
 pub record IsRefused (e : End) (output : Output) (refusal : What) : Type 0 where
   pub end : output.end ≡ e
   pub lines : output.lines ≡ line_at e.side refusal ∷ []
   pub packets : output.packets ≡ []
 
--- An act that is refused prints why, and changes nothing.
+-- An act that is refused prints the cause, and changes nothing.
 pub record RefusedActsChangeNothing : Type 0 where
   pub sends : (schema : Schema) (e : End) (link : List Packet) (row : MessageRow) (route : ℤ) (number : ℕ) (vs : Values) (name : Option (List ℕ)) (cause : SendRefusal) (output : Output)
       → request_row schema number ≡ Some row → send_refusal schema e row route vs ≡ Some cause → step schema e link (event.send route number vs name) ≡ Some output → IsRefused e output (what.RefusedSend cause row.number)

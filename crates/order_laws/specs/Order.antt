@@ -2,7 +2,7 @@
 use Rattle.std.specs.Prelude.{◌≡◌, ℕ, Bool, true, false, cond, ◌⊎◌, List, [], ◌∷◌, ◌++◌, map, take, Option, Some, None}
 use Rattle.std.specs.List.{AllByRecursion}
 use Rattle.ipdl_base.specs.declared.kinds.Side.{Side}
-use Rattle.ipdl_base.specs.declared.kinds.Side.TheVariants.{Parent, Child}
+use Rattle.ipdl_base.specs.Lines.{same_side}
 use Rattle.ipdl_base.specs.declared.line.Line.{Line}
 use Rattle.ipdl_base.specs.declared.line.What.{What}
 use Rattle.ipdl_base.specs.declared.line.What.TheVariants as what
@@ -14,7 +14,7 @@ use Rattle.ipdl_base.specs.Sound.{IsSound}
 use Rattle.pending_queue.specs.declared.item.Item.{Item}
 use Rattle.pending_queue.specs.declared.item.Item.TheVariants as item
 use Rattle.pending_queue.specs.Compression.{are_alike}
-use Rattle.pending_queue.specs.Holding.{defers_item}
+use Rattle.pending_queue.specs.DeferralContext.{defers_item}
 use Rattle.channel_model.specs.Ends.{End, World, Packet, message, mark, end_of, link_to, opening}
 use Rattle.channel_model.specs.Events.{Event, Move}
 use Rattle.channel_model.specs.Events as event
@@ -23,12 +23,12 @@ use Rattle.channel_model.specs.Runs.{happens, is_delivery, output_of}
 use Rattle.channel_model.specs.Sends.{frames_of}
 use Rattle.channel_model.specs.States.{IsAnswered, is_farewell}
 use Rattle.channel_model.specs.Steps.{step, first_packet}
-use Rattle.channel_model.specs.Takes.{holding_of}
+use Rattle.channel_model.specs.Takes.{deferral_context_of}
 use Rattle.channel_laws.specs.Laws.{world_of}
 
 -- Takes
 
--- a line says that a message is taken, by its body: of a request that it is taken or dropped
+-- a line shows that a message is taken, by its body; for a request, that it is taken or dropped
 abbrev pub IsTakeOfBody : Message → Body → What → Type 0
 IsTakeOfBody m (Request vs) (what.Take n route number values) = (n ≡ m.seq) × (route ≡ m.route) × (number ≡ m.number)
 IsTakeOfBody m (Request vs) (what.Drop n route number id) = (n ≡ m.seq) × (route ≡ m.route) × (number ≡ m.number)
@@ -40,7 +40,7 @@ IsTakeOfBody m (Fault reason) _ = ⊥
 IsTakeOfBody m Goodbye what.ShutNormal = Unit {0}
 IsTakeOfBody m Goodbye _ = ⊥
 
--- a line says that an item is taken
+-- a line shows that an item is taken
 abbrev pub IsTakeOf : Item → What → Type 0
 IsTakeOf (item.Message m sync level) w = IsTakeOfBody m m.body w
 IsTakeOf item.Broken what.ShutAbnormal = Unit {0}
@@ -51,20 +51,20 @@ abbrev pub FirstLine : (What → Type 0) → List Line → Type 0
 FirstLine P [] = ⊥
 FirstLine P (line ∷ rest) = P line.what
 
--- What an end takes, and what is older and younger than that of the items that have arrived and wait. At that moment the
--- end does not defer the item, and defers every older one. The item leaves; a farewell leaves nothing.
+-- The item that an end takes, and the older and younger items that wait. At that moment the end does not defer the
+-- item, and defers every older one. The item leaves; a farewell leaves nothing behind.
 pub record TakesFreeItem (e : End) (output : Output) : Type 0 where
   pub taken : Item
   pub older : List Item
   pub younger : List Item
   pub arrived : e.arrived ≡ older ++ taken ∷ younger
-  pub free : defers_item (holding_of e) taken ≡ false
-  pub deferred : AllByRecursion (λ x. defers_item (holding_of e) x ≡ true) older
+  pub free : defers_item (deferral_context_of e) taken ≡ false
+  pub deferred : AllByRecursion (λ x. defers_item (deferral_context_of e) x ≡ true) older
   pub told : FirstLine (IsTakeOf taken) output.lines
   pub left : output.end.arrived ≡ cond (is_farewell taken) [] (older ++ younger)
 
--- What an end takes or drops is not deferred, and every older item that waits is. An end that waits for no answer takes the
--- oldest.
+-- An item that is taken or dropped is not deferred, and every older item that waits is. An end without an unanswered
+-- wait takes the oldest item.
 pub record FreeItemsAreTaken : Type 0 where
   pub takes : (schema : Schema) (e : End) (link : List Packet) (output : Output) → step schema e link event.take ≡ Some output → TakesFreeItem e output
   pub oldest : (schema : Schema) (e : End) (link : List Packet) (output : Output) (first : Item) (rest : List Item) → AllByRecursion IsAnswered (frames_of e) → e.arrived ≡ first ∷ rest → step schema e link event.take ≡ Some output → FirstLine (IsTakeOf first) output.lines
@@ -76,14 +76,15 @@ abbrev pub packet_of : Item → Packet
 packet_of (item.Message m sync level) = message m
 packet_of item.Broken = mark
 
--- What a delivery makes of the items that have arrived: its packet comes last, and at most one earlier request of the same
--- message to the same actor leaves; or the packet does not wait to be taken, as the reply that a call waits for.
+-- What a delivery does to the items that have arrived: its packet comes last, and at most one earlier request of the
+-- same message to the same actor leaves. Or the packet does not wait to be taken, such as the reply that a call waits
+-- for.
 pub data ArrivesLast (packet : Packet) (before after : List Item) : Type 0 where
   passes : after ≡ before → ArrivesLast packet before after
   arrives : (new : Item) → packet_of new ≡ packet → after ≡ before ++ new ∷ [] → ArrivesLast packet before after
   replaces : (new old : Item) (front back : List Item) → packet_of new ≡ packet → are_alike new old ≡ true → before ≡ front ++ old ∷ back → after ≡ (front ++ back) ++ new ∷ [] → ArrivesLast packet before after
 
--- all that has arrived stays, or nothing is left and the end is not open any more
+-- all that has arrived stays, or nothing is left and the end is no longer open
 abbrev pub StaysOrEnds : End → Output → Type 0
 StaysOrEnds e output = (output.end.arrived ≡ e.arrived) ⊎ ((output.end.arrived ≡ []) × (is_open output.end.state ≡ false))
 
@@ -99,28 +100,21 @@ pub data IsSubsequence {A : Type 0} : List A → List A → Type 0 where
   both : {x : A} {xs ys : List A} → IsSubsequence xs ys → IsSubsequence (x ∷ xs) (x ∷ ys)
   without : {y : A} {xs ys : List A} → IsSubsequence xs ys → IsSubsequence xs (y ∷ ys)
 
--- whether two sides are the same
-abbrev pub is_side : Side → Side → Bool
-is_side Parent Parent = true
-is_side Parent Child = false
-is_side Child Parent = false
-is_side Child Child = true
-
--- what a delivery, where it is possible, takes off the link toward its end
+-- what a delivery, if it is possible, takes off the link toward its end
 abbrev pub delivered_when : Option Output → Event → List Packet → List Packet
 delivered_when None ev link = []
 delivered_when (Some output) ev link = cond (is_delivery ev) (take 1 link) []
 
 -- what a move delivers to a side
 abbrev pub delivered_by : Schema → World → Side → Move → List Packet
-delivered_by schema w side move = cond (is_side side move.side) (delivered_when (output_of schema w move) move.event (link_to move.side w)) []
+delivered_by schema w side move = cond (same_side side move.side) (delivered_when (output_of schema w move) move.event (link_to move.side w)) []
 
 -- all that moves deliver to a side, in order
 abbrev pub delivered_to : Schema → Side → List Move → World → List Packet
 delivered_to schema side [] w = []
 delivered_to schema side (move ∷ moves) w = delivered_by schema w side move ++ delivered_to schema side moves (happens schema w move).world
 
--- How each event changes the items that have arrived at its end; and so in every run the items that wait at an end are a
+-- How each event changes the items that have arrived at its end. So in every run the items that wait at an end are a
 -- subsequence of the packets that were delivered to it.
 pub record ArrivalsKeepTheirOrder : Type 0 where
   pub changes : (schema : Schema) (e : End) (link : List Packet) (ev : Event) (output : Output) → step schema e link ev ≡ Some output → ChangesArrivals e link ev output
@@ -134,7 +128,7 @@ IsShut what.ShutNormal = Unit {0}
 IsShut what.ShutAbnormal = Unit {0}
 IsShut _ = ⊥
 
--- A farewell is taken when no other item waits, and the end waits for no answer.
+-- A farewell is taken when no other item waits, and no call of the end waits for its answer.
 pub record TakesLast (e : End) : Type 0 where
   pub last : Item
   pub farewell : is_farewell last ≡ true

@@ -1,7 +1,8 @@
-//! The laws of effects.
+//! Laws of the effects that events have.
 ghost use Rattle.order_laws.specs.DueEffects.{ConstructorsBuild, DestructorsDelete, DueAnswersAreGiven, ManagersLive, RefusedActsChangeNothing, RepliesSettle};
 
-/// The law of destructors: after the send of one, and after the return of its handler, its actor and its subtree do not live.
+/// The law of destructors: after a destructor is sent and not refused, and after its handler returns, its
+/// actor and its subtree do not live at that end.
 pub fn destructors_delete()
     ensures { DestructorsDelete }
 {}
@@ -11,22 +12,25 @@ pub fn managers_live()
     ensures { ManagersLive }
 {}
 
-/// The law of constructors: the event that sends one or takes one builds its actor and no other.
+/// The law of constructors: the event that sends or takes a constructor builds its actor and no other, unless
+/// it is refused or dropped.
 pub fn constructors_build()
     ensures { ConstructorsBuild }
 {}
 
-/// The law of replies: a reply that is taken settles its promise where that is pending, and does nothing else.
+/// The law of replies: a reply that is taken settles its promise if that is pending, and does nothing else.
 pub fn replies_settle()
     ensures { RepliesSettle }
 {}
 
-/// The law of answers: an event answers each request that it owes an answer, in that event, where its end is open.
+/// The law of answers: an event answers each request to which it owes an answer, in that event, if its end is
+/// open.
 pub fn due_answers_are_given()
     ensures { DueAnswersAreGiven }
 {}
 
-/// The law of refusals: an act that is refused prints its one line, and changes neither the end nor what it sends.
+/// The law of refusals: an act that is refused prints one line, and changes neither the end nor what it
+/// sends.
 pub fn refused_acts_change_nothing()
     ensures { RefusedActsChangeNothing }
 {}

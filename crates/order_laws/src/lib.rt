@@ -1,5 +1,6 @@
-//! The order in which an end takes what has arrived, and the effects that an event has to have (docs/nesting.md). Laws
-//! about definitions: no function here runs.
+//! The order in which an end takes what has arrived, and the effects that an event must have
+//! (docs/nesting.md). These are
+//! laws about definitions: no function of this crate computes anything.
 #![tactic(auto)]
 
 mod effects;

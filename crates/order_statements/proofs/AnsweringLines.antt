@@ -1,4 +1,5 @@
--- Which requests the lines of a step answer: one that has arrived and is dropped or replaced, or one that is handled or kept.
+-- Which requests the lines of a step answer: a request that has arrived and is dropped or replaced, or one that is
+-- handled or kept.
 use Rattle.std.proofs.Common.{◌≡◌, ℕ, ◌≤◌, ℤ, Bool, true, false, not, ◌&&◌, ◌==◌, if◌then◌else◌, cond, int_eq, List, [], ◌∷◌, ◌++◌, drop, find, map, Option, Some, None, option_map, refl, sym, ap, subst, ◌∙◌, arith}
 use Rattle.std.specs.List.{AllByRecursion}
 use Rattle.std.proofs.lemmas.Bool.{eqb-true, or_left, or_right}
@@ -30,15 +31,16 @@ use Rattle.channel_model.specs.Ends.{End, NameContent, Naming, Packet, Resolver,
 use Rattle.channel_model.specs.Events.{Answering, handled, kept}
 use Rattle.channel_model.specs.Falls as fall
 use Rattle.channel_model.specs.Names.{has_name, held_by_name}
-use Rattle.channel_model.specs.Numbers.{is_sync_row, makes_promise, request_row, top_id}
+use Rattle.ipdl_base.specs.Sides.{top_id}
+use Rattle.channel_model.specs.Numbers.{is_sync_row, makes_promise, request_row}
 use Rattle.channel_model.specs.Outputs.{AnsweredRequest, Output, answer_line, is_open, request_answered, resolver_answered}
 use Rattle.channel_model.specs.Parts as parts
-use Rattle.channel_model.specs.Parts.{DeliveryPart, FirstPart, IsRefusal, IsRenaming, LaterPart, LaterParts, OwnParts, end_behind, fall_lines, reply_lines}
+use Rattle.channel_model.specs.Parts.{DeliveryPart, FirstPart, IsRefusal, IsRenaming, LaterPart, LaterParts, OwnParts, end_after, fall_lines, reply_lines}
 use Rattle.channel_model.specs.Phases.{Phase}
 use Rattle.channel_model.specs.Returns as return
 use Rattle.channel_model.specs.Sends as send
 use Rattle.channel_model.specs.Takes as take
-use Rattle.channel_model.proofs.Known.{all-behind, all-both}
+use Rattle.channel_model.proofs.Known.{all-following, all-both}
 use Rattle.channel_model.proofs.Tests.{and-left, and-right}
 use Rattle.channel_laws.specs.Arrivals.{item_kind}
 use Rattle.channel_laws.specs.Counts.{how_many, is_packet, one_if}
@@ -69,13 +71,14 @@ use Rattle.order_statements.proofs.StepLines.{MadeOf, of_delivery, of_own}
 abbrev pub HasArrived : End → ℤ → Type 0
 HasArrived e n = 1 ≤ how_many (is_packet (kind.Request n)) (map item_kind e.arrived)
 
--- A request of this message was sent by the other end, and owes a reply.
+-- A request of this message was sent by the other end, and needs a reply.
 pub record Owes (schema : Schema) (theirs : List Note) (n : ℤ) (number : ℕ) : Type 0 where
   pub route : ℤ
   pub requested : IsRequested theirs n route number
   pub owes : owes_reply schema number ≡ true
 
--- The request that a line answers, with these lines of its step before: it was taken before, or has arrived and is dropped or replaced.
+-- The request that a line answers, given these lines of its step before it: it was taken before, or has arrived and
+-- is dropped or replaced.
 pub data IsAnswered (e : End) (said front : List What) (n : ℤ) : Type 0 where
   was_taken : has (gone said) n ≡ true → IsAnswered e said front n
   is_dropped : HasArrived e n → (route : ℤ) (number : ℕ) (id : ℤ) → front ≡ what.Drop n route number id ∷ [] → IsAnswered e said front n
@@ -190,7 +193,7 @@ old-request schema theirs e m row old sync level rep origins =
       taken = r.taken;
       values = b.0;
       body = b.1;
-      asked = body-asked schema theirs old b.0 b.1 (all-behind (ItemOrigin schema theirs) r.taken.front (item.Message old sync level ∷ r.taken.back) (subst (AllByRecursion (ItemOrigin schema theirs)) r.taken.whole origins.arrived)).0;
+      asked = body-asked schema theirs old b.0 b.1 (all-following (ItemOrigin schema theirs) r.taken.front (item.Message old sync level ∷ r.taken.back) (subst (AllByRecursion (ItemOrigin schema theirs)) r.taken.whole origins.arrived)).0;
       number_is = alike-number m old (is_sync_row row) sync row.level level r.alike;
     }
 
@@ -205,7 +208,7 @@ content-is G H name (x ∷ xs) c h e = by (has_name name x) e (λ k. content-is 
     by false k rec = rec k
 
 module _ (schema : Schema) (theirs : List Note) (said : List What) where
-  -- a request of this number and message was asked by the other end, and taken
+  -- a request of this number and message was sent by the other end, and taken
   abbrev Asked : ℤ → ℕ → Type 0
   Asked n number = ((route : ℤ) × IsRequested theirs n route number) × (has (gone said) n ≡ true)
 
@@ -227,7 +230,7 @@ module _ (schema : Schema) (theirs : List Note) (said : List What) where
       by (actor id) o t = tt
       by (resolver r) o t = (((r.route, o.origin.requested), t.0), promised-owes r.number o.origin.row o.origin.found o.promised)
 
-  -- What a line of an answer tells.
+  -- What a line of an answer shows.
   pub record Tells (e : End) (front : List What) (n : ℤ) : Type 0 where
     pub number : ℕ
     pub owes : Owes schema theirs n number
@@ -244,7 +247,7 @@ module _ (schema : Schema) (theirs : List Note) (said : List What) where
   falls-none : (id : ℤ) (why : ℤ → Destroy) (e : End) → AllByRecursion NoAnswer (fall_lines id why e)
   falls-none id why e = falls-have NoAnswer (record { rejected = λ n r. refl; fell = λ a w. refl }) id why e
 
-  -- only a name that lets go of a resolver answers, at an open end
+  -- only a name that loses a resolver answers, at an open end
   pub record LaterTells (e g : End) (front : List What) (n : ℤ) : Type 0 where
     pub opened : is_open g.state ≡ true
     pub tells : Tells e front n
@@ -280,22 +283,22 @@ module _ (schema : Schema) (theirs : List Note) (said : List What) where
   laters-answer {g} (parts.then {ws} {vs} part more) h start before front w rest n at is = by (place-in ws vs front w rest at) (λ later same. laters-answer more (λ r. later-is Asked OwesReply part (h (part-renames part r))) start before later w rest n same is)
     where
       by : PlaceIn ws vs front w rest → ((later : List What) → vs ≡ later ++ w ∷ rest → LaterTells start g before n) → LaterTells start g before n
-      by (in_first between same behind_is) rec =
+      by (in_first between same after_is) rec =
           let one = part-answers part h start before front w between n same is in
           record { opened = ap is_open (laters-state more) ∙ one.opened; tells = one.tells }
       by (in_second later front_is same) rec = rec later same
 
   -- First parts
 
-  behind-state : (b : Bool) (e : End) → (end_behind b e).state ≡ e.state
-  behind-state true e = refl
-  behind-state false e = refl
+  following-state : (b : Bool) (e : End) → (end_after b e).state ≡ e.state
+  following-state true e = refl
+  following-state false e = refl
 
   open-and : (a b : Bool) → a && b ≡ true → (a ≡ true) × (b ≡ true)
   open-and true b h = (refl, h)
   open-and false b h = cc
 
-  -- an answer that is not refused comes of an open end
+  -- an answer that is not refused comes from an open end
   accepted-open : (e : End) (row : MessageRow) (by : Answering) (vs : Option Values) → answering.answer_refusal schema e row by vs ≡ None → is_open e.state ≡ true
   accepted-open e row by vs h = from (is_open e.state) h
     where
@@ -341,7 +344,7 @@ module _ (schema : Schema) (theirs : List Note) (said : List What) where
       let asked = body-asked schema theirs m vs body (all-taken (ItemOrigin schema theirs) x (item.Message m sync level) next origins.arrived) in
       let front_is : v ∷ front ≡ what.Drop n m.route m.number id ∷ [] = ap (λ (xs : List What). v ∷ xs) p.1 ∙ (ap (λ (y : What). y ∷ []) (sym first) ∙ ap (λ (k : ℤ). what.Drop k m.route m.number id ∷ []) (sym p.2)) in
       record {
-        opened = ap is_open (behind-state told (parts.left_end x)) ∙ o.0;
+        opened = ap is_open (following-state told (parts.left_end x)) ∙ o.0;
         tells = record {
           number = m.number;
           owes = subst (λ (k : ℤ). Owes schema theirs k m.number) (sym p.2) (record { route = m.route; requested = asked.requested; owes = owes-same schema m.number row found ∙ o.1 });
@@ -367,11 +370,11 @@ module _ (schema : Schema) (theirs : List Note) (said : List What) where
       popped : End
       popped = record x { stack = drop 1 x.stack }
 
-      state-same : (end_behind lost (end_behind told popped)).state ≡ x.state
-      state-same = behind-state lost (end_behind told popped) ∙ behind-state told popped
+      state-same : (end_after lost (end_after told popped)).state ≡ x.state
+      state-same = following-state lost (end_after told popped) ∙ following-state told popped
 
-      by : PlaceIn answers loses front w rest → LaterTells x (end_behind lost (end_behind told (record x { stack = drop 1 x.stack }))) (v ∷ front) n
-      by (in_first between same behind_is) =
+      by : PlaceIn answers loses front w rest → LaterTells x (end_after lost (end_after told (record x { stack = drop 1 x.stack }))) (v ∷ front) n
+      by (in_first between same after_is) =
           let p = reply-place told (return.dispatch_answered entry) (return.return_answer schema x row entry vs) front w between n same is in
           let o = open-and (is_open x.state) (is_sync_row row) (sym told_is ∙ p.0) in
           let owes : OwesReply entry.number = owes-same schema entry.number row (request-message schema entry.number row ret.found) ∙ or_left (is_sync_row row) (makes_promise row) o.1 in
@@ -383,7 +386,7 @@ module _ (schema : Schema) (theirs : List Note) (said : List What) where
           record { opened = ap is_open state-same ∙ o.0; tells = tells-at x (v ∷ front) (head_of entry.frame).seq n entry.number p.2 t.0 (t.1 o.1) }
   first-answers (parts.resumes {e = x} wait row top found) origins h front w rest n at is = none-there (_ ∷ []) front w rest n (resume-none wait.seq _, tt) at is
 
-  -- a part after which a name may let go of a resolver changes none
+  -- a part after which a name may lose a resolver changes no resolver
   first-renames : {e f : End} {us : List What} {ps : List Packet} {p : Phase} → FirstPart schema e us ps f p → p.renames ≡ true → EndIs Asked OwesReply e → EndIs Asked OwesReply f
   first-renames (parts.refuses v r) renames h = cc
   first-renames (parts.renames v r) renames h = h
@@ -406,7 +409,7 @@ module _ (schema : Schema) (theirs : List Note) (said : List What) where
   own-answers {e} {g} (parts.begun {ws = us} {vs = vs} first later over) origins h front w rest n at is = by (place-in us vs front w rest at)
     where
       by : PlaceIn us vs front w rest → LaterTells e g front n
-      by (in_first between same behind_is) = let one = first-answers first origins h front w between n same is in record { opened = ap is_open (laters-state later) ∙ one.opened; tells = one.tells }
+      by (in_first between same after_is) = let one = first-answers first origins h front w between n same is in record { opened = ap is_open (laters-state later) ∙ one.opened; tells = one.tells }
       by (in_second after front_is same) = laters-answer later (λ r. first-renames first r h) e front after w rest n same is
 
   -- Deliveries
@@ -421,7 +424,7 @@ module _ (schema : Schema) (theirs : List Note) (said : List What) where
       loses : List What
       loses = reply_lines told (request_answered old) (answer.Fault reason.ResolverDestroyed)
 
-      by : (front : List What) → what.DeliverRequest m.seq ∷ what.Replaced old.seq ∷ loses ≡ front ++ w ∷ rest → LaterTells x (end_behind told (delivery.counted row (delivery.item_of row m) x)) front n
+      by : (front : List What) → what.DeliverRequest m.seq ∷ what.Replaced old.seq ∷ loses ≡ front ++ w ∷ rest → LaterTells x (end_after told (delivery.counted row (delivery.item_of row m) x)) front n
       by [] e = let same : what.DeliverRequest m.seq ≡ w = cc in let k : None ≡ Some n = ap number_answered same ∙ is in cc
       by (v ∷ []) e = let same : what.Replaced old.seq ≡ w = cc in let k : None ≡ Some n = ap number_answered same ∙ is in cc
       by (v ∷ u ∷ later) e =
@@ -434,7 +437,7 @@ module _ (schema : Schema) (theirs : List Note) (said : List What) where
           let front_is : v ∷ u ∷ later ≡ what.DeliverRequest m.seq ∷ what.Replaced n ∷ [] =
           ap (λ (xs : List What). v ∷ u ∷ xs) p.1 ∙ (ap (λ (y : What). y ∷ u ∷ []) (sym first) ∙ (ap (λ (y : What). what.DeliverRequest m.seq ∷ y ∷ []) (sym second) ∙ ap (λ (k : ℤ). what.DeliverRequest m.seq ∷ what.Replaced k ∷ []) (sym p.2))) in
           record {
-            opened = ap is_open (behind-state told (delivery.counted row (delivery.item_of row m) x)) ∙ opened;
+            opened = ap is_open (following-state told (delivery.counted row (delivery.item_of row m) x)) ∙ opened;
             tells = record {
               number = old.number;
               owes = subst (λ (k : ℤ). Owes schema theirs k old.number) (sym p.2) (record { route = old.route; requested = o.asked.requested; owes = owes });

@@ -37,7 +37,8 @@ use Rattle.history_reading.specs.SentPacket.{Request, packet_kind, request_of}
 use Rattle.law_statements.specs.Arrived.{state_of}
 use Rattle.law_statements.specs.Packets.{delivered, delivery, gone, number_gone, sent, settled}
 use Rattle.law_statements.specs.Prefix.{Prefix}
-use Rattle.law_statements.specs.Said.{is_event, last_event, line_of, other_end, said_by, said_in}
+use Rattle.ipdl_base.specs.Sides.{other}
+use Rattle.law_statements.specs.Said.{is_event, last_event, line_of, said_by, said_in}
 use Rattle.law_statements.proofs.Fields.{delivered-read, gone-read, sent-read}
 use Rattle.law_statements.proofs.Lists.{last-add}
 use Rattle.law_statements.proofs.PrefixLaw.{prefix-to}
@@ -60,8 +61,8 @@ use Rattle.order_statements.proofs.SaidCounts.{any-some, delivered-more, first-a
 use Rattle.order_statements.proofs.StepLines.{made-of}
 use Rattle.order_statements.proofs.Tells.{EndTells, history-tells, move-tells}
 
--- A step of a legal history: what the lines of its end tell of it before and after, that what it handles was taken, and the
--- requests of the other.
+-- A step of a legal history: what the lines of its end show of it before and after, that what it handles was taken,
+-- and the requests of the other end.
 pub record LegalStep (schema : Schema) (end : Side) (start : List Line) (output : Output) : Type 0 where
   pub e : End
   pub link : List Packet
@@ -70,7 +71,7 @@ pub record LegalStep (schema : Schema) (end : Side) (start : List Line) (output 
   pub tells : EndTells schema e end start
   pub tells_after : EndTells schema output.end end (start ++ output.lines)
   pub taken : HandledWereTaken e (said_by end start)
-  pub asks : KnowsAsked schema (said_by (other_end end) start) e
+  pub asks : KnowsAsked schema (said_by (other end) start) e
 
 pub legal-step : (schema : Schema) → IsSound schema → (top : ℕ) (moves : List Move) (end : Side) (start : List Line) (output : Output) → MoveAt schema top moves end start output → LegalStep schema end start output
 legal-step schema sound top moves end start output m =
@@ -85,7 +86,7 @@ legal-step schema sound top moves end start output m =
       tells = subst (EndTells schema e end) (sym m.start_is) (subst (λ (s : Side). EndTells schema e s lines) m.side_is (history-tells schema sound top m.front m.move.side));
       tells_after = (move-tells schema sound top moves end start output m).tells_after;
       taken = subst (λ (ls : List Line). HandledWereTaken e (said_by end ls)) (sym m.start_is) (subst (λ (s : Side). HandledWereTaken e (said_by s lines)) m.side_is (kept-in-history schema HandledWereTaken (handled-taken schema) top m.front m.move.side));
-      asks = subst (λ (ls : List Line). KnowsAsked schema (said_by (other_end end) ls) e) (sym m.start_is) (subst (λ (s : Side). KnowsAsked schema (said_by (other_end s) lines) e) m.side_is (history-asks schema sound top m.front m.move.side));
+      asks = subst (λ (ls : List Line). KnowsAsked schema (said_by (other end) ls) e) (sym m.start_is) (subst (λ (s : Side). KnowsAsked schema (said_by (other s) lines) e) m.side_is (history-asks schema sound top m.front m.move.side));
     }
 
 -- A line of a legal history, its step, and the lines of this before it and after it.
@@ -98,22 +99,22 @@ pub record LegalLine (schema : Schema) (end : Side) (w : What) (before : List Li
   pub before_is : before ≡ start ++ map (line_of end) front
   pub lines : output.lines ≡ map (line_of end) (front ++ w ∷ more)
 
-legal-line : (schema : Schema) → IsSound schema → (top : ℕ) (moves : List Move) (end : Side) (w : What) (before behind : List Line) → history_of schema top moves ≡ before ++ line_of end w ∷ behind → LegalLine schema end w before
-legal-line schema sound top moves end w before behind at = by (is_effect w) refl
+legal-line : (schema : Schema) → IsSound schema → (top : ℕ) (moves : List Move) (end : Side) (w : What) (before following : List Line) → history_of schema top moves ≡ before ++ line_of end w ∷ following → LegalLine schema end w before
+legal-line schema sound top moves end w before following at = by (is_effect w) refl
   where
     by : (b : Bool) → is_effect w ≡ b → LegalLine schema end w before
     by false is =
-        let i : EventIn (MoveAt schema top moves end) end w before behind = event-at schema sound top moves end w before behind is at in
+        let i : EventIn (MoveAt schema top moves end) end w before following = event-at schema sound top moves end w before following is at in
         record { start = before; output = i.output; by = legal-step schema sound top moves end before i.output i.by; front = []; more = i.effects; before_is = sym (append-nil before); lines = i.lines }
     by true is =
-        let i : EffectIn (MoveAt schema top moves end) end w before behind = effect-at schema sound top moves end w before behind is at in
+        let i : EffectIn (MoveAt schema top moves end) end w before following = effect-at schema sound top moves end w before following is at in
         record { start = i.start; output = i.output; by = legal-step schema sound top moves end i.start i.output i.by; front = i.event ∷ i.earlier; more = i.more; before_is = i.before_is; lines = i.lines }
 
--- the lines of an end are nothing that the other says
-other-said : (end : Side) (start : List Line) (ws : List What) (before : List Line) → before ≡ start ++ map (line_of end) ws → said_by (other_end end) before ≡ said_by (other_end end) start
+-- the lines of an end are not lines of the other end
+other-said : (end : Side) (start : List Line) (ws : List What) (before : List Line) → before ≡ start ++ map (line_of end) ws → said_by (other end) before ≡ said_by (other end) start
 other-said end start ws before is =
-    ap (said_by (other_end end)) is
-    ∙ (filter_map-append (said_in (other_end end)) start (map (line_of end) ws) ∙ (ap (λ (xs : List What). said_by (other_end end) start ++ xs) (none-said end ws) ∙ append-nil (said_by (other_end end) start)))
+    ap (said_by (other end)) is
+    ∙ (filter_map-append (said_in (other end)) start (map (line_of end) ws) ∙ (ap (λ (xs : List What). said_by (other end) start ++ xs) (none-said end ws) ∙ append-nil (said_by (other end) start)))
 
 -- an end that takes a reply takes what has arrived
 reply-takes : (schema : Schema) (e : End) (link : List Packet) (ev : Event) (output : Output) → step schema e link ev ≡ Some output → (n : ℤ) → IsLineOf ev (what.TakeReply n) → takes_in_state e.state ≡ true
@@ -158,7 +159,7 @@ module _ (schema : Schema) (end : Side) (w : What) (before : List Line) (l : Leg
   said-after : said_by end (l.start ++ l.output.lines) ≡ (own ++ l.front) ++ w ∷ l.more
   said-after = ap (λ (ls : List Line). said_by end (l.start ++ ls)) l.lines ∙ (said-more end l.start (l.front ++ w ∷ l.more) ∙ sym (append_assoc own l.front (w ∷ l.more)))
 
-  other-before : said_by (other_end end) before ≡ said_by (other_end end) l.start
+  other-before : said_by (other end) before ≡ said_by (other end) l.start
   other-before = other-said end l.start l.front before l.before_is
 
   opened-then : is_open_by (own ++ l.front) ≡ true
@@ -166,10 +167,10 @@ module _ (schema : Schema) (end : Side) (w : What) (before : List Line) (l : Leg
       open-before (own ++ l.front) (w ∷ l.more)
       (ap (λ (ws : List What). is_open (state_of ws)) (sym said-after) ∙ (ap is_open l.by.tells_after.state ∙ (open-same l.output.end.state ∙ tells.opened)))
 
-  asked-then : IsAsked schema (said_by (other_end end) l.start) n tells.tells.number
+  asked-then : IsAsked schema (said_by (other end) l.start) n tells.tells.number
   asked-then = l.by.asks.asks n tells.tells.owes.route tells.tells.number tells.tells.owes.requested
 
-  -- it was delivered before the step
+  -- the request was delivered before the step
   delivered-then : has_packet (delivered own) (kind.Request n) ≡ true
   delivered-then = ap (λ (ps : List PacketKind). has_packet ps (kind.Request n)) (sym (delivered-read schema end l.start)) ∙ some-any (is_packet (kind.Request n)) reading.delivered (by tells.tells.how)
     where
@@ -226,9 +227,9 @@ module _ (schema : Schema) (end : Side) (w : What) (before : List Line) (l : Leg
           let again : has_packet (delivered l.front) (kind.Request n) ≡ true = ap (λ (ws : List What). has_packet (delivered ws) (kind.Request n)) at ∙ ap (λ (b : Bool). b || false) (ap (λ (k : ℤ). int_eq k n) same ∙ int-same n) in
           delivered-twice own l.front (w ∷ l.more) n delivered-then again once-then
 
-  may-answer : ((m : ℤ) → last_event (said_by end before) ≡ Some (what.DeliverRequest m) → has (gone (said_by end before)) m ≡ false) → MayAnswer schema (said_by end before) (said_by (other_end end) before) n
+  may-answer : ((m : ℤ) → last_event (said_by end before) ≡ Some (what.DeliverRequest m) → has (gone (said_by end before)) m ≡ false) → MayAnswer schema (said_by end before) (said_by (other end) before) n
   may-answer fresh =
-      subst (λ (ws : List What). MayAnswer schema ws (said_by (other_end end) before) n) (sym said-before)
+      subst (λ (ws : List What). MayAnswer schema ws (said_by (other end) before) n) (sym said-before)
       (subst (λ (ws : List What). MayAnswer schema (own ++ l.front) ws n) (sym other-before) (record {
         opened = opened-then;
         asked = asked-then.asked;
@@ -241,21 +242,21 @@ module _ (schema : Schema) (end : Side) (w : What) (before : List Line) (l : Leg
 
 -- One request that is replaced
 
-replaced-at : (schema : Schema) (end : Side) (n : ℤ) (before behind start : List Line) (output : Output) (s : LegalStep schema end start output) (event : What) (earlier more : List What) → before ≡ start ++ map (line_of end) (event ∷ earlier)
-    → output.lines ≡ map (line_of end) (event ∷ (earlier ++ what.Replaced n ∷ more)) → HasEffects end more behind
-    → (asked : Request) × (request_of (sent schema (said_by (other_end end) before)) n ≡ Some asked) × HasEffects end (fault_due asked.wants n reason.ResolverDestroyed) behind
-replaced-at schema end n before behind start output s event earlier more before_is lines has_them =
+replaced-at : (schema : Schema) (end : Side) (n : ℤ) (before following start : List Line) (output : Output) (s : LegalStep schema end start output) (event : What) (earlier more : List What) → before ≡ start ++ map (line_of end) (event ∷ earlier)
+    → output.lines ≡ map (line_of end) (event ∷ (earlier ++ what.Replaced n ∷ more)) → HasEffects end more following
+    → (asked : Request) × (request_of (sent schema (said_by (other end) before)) n ≡ Some asked) × HasEffects end (fault_due asked.wants n reason.ResolverDestroyed) following
+replaced-at schema end n before following start output s event earlier more before_is lines has_them =
     by (step-replaces schema s.asks.theirs s.e output (event ∷ (earlier ++ what.Replaced n ∷ more)) (made-of schema s.e s.link s.happened output s.made end (event ∷ (earlier ++ what.Replaced n ∷ more)) lines) s.asks.origins event earlier n more refl)
   where
-    with-request : (number : ℕ) → more ≡ fault_due (wants_number schema number) n reason.ResolverDestroyed → IsAsked schema (said_by (other_end end) start) n number
-        → (asked : Request) × (request_of (sent schema (said_by (other_end end) before)) n ≡ Some asked) × HasEffects end (fault_due asked.wants n reason.ResolverDestroyed) behind
+    with-request : (number : ℕ) → more ≡ fault_due (wants_number schema number) n reason.ResolverDestroyed → IsAsked schema (said_by (other end) start) n number
+        → (asked : Request) × (request_of (sent schema (said_by (other end) before)) n ≡ Some asked) × HasEffects end (fault_due asked.wants n reason.ResolverDestroyed) following
     with-request number are a = (
       a.asked,
       ap (λ (ws : List What). request_of (sent schema ws) n) (other-said end start (event ∷ earlier) before before_is) ∙ a.found,
-      subst (λ (ws : List What). HasEffects end ws behind) (are ∙ ap (λ (b : Bool). fault_due b n reason.ResolverDestroyed) (sym a.wants_is)) has_them,
+      subst (λ (ws : List What). HasEffects end ws following) (are ∙ ap (λ (b : Bool). fault_due b n reason.ResolverDestroyed) (sym a.wants_is)) has_them,
     )
 
-    by : TellsReplaced schema s.asks.theirs n more → (asked : Request) × (request_of (sent schema (said_by (other_end end) before)) n ≡ Some asked) × HasEffects end (fault_due asked.wants n reason.ResolverDestroyed) behind
+    by : TellsReplaced schema s.asks.theirs n more → (asked : Request) × (request_of (sent schema (said_by (other end) before)) n ≡ Some asked) × HasEffects end (fault_due asked.wants n reason.ResolverDestroyed) following
     by t = with-request t.number t.are (s.asks.asks n t.route t.number t.requested)
 
 module _ (schema : Schema) (sound : IsSound schema) (top : ℕ) (moves : List Move) where
@@ -272,28 +273,28 @@ module _ (schema : Schema) (sound : IsSound schema) (top : ℕ) (moves : List Mo
       let same = ap (how_many (is_packet (kind.Request n))) (delivered-read schema end history) in
       omega (arith, once, same)
 
-  pub answers-history : (end : Side) (w : What) (n : ℤ) (before behind : List Line) → history ≡ before ++ line_of end w ∷ behind → number_answered w ≡ Some n → MayAnswer schema (said_by end before) (said_by (other_end end) before) n
-  answers-history end w n before behind at is =
-      may-answer schema end w before (legal-line schema sound top moves end w before behind at) n is
-      (last-not-left schema history history-prefix end (delivered-once end) before (line_of end w ∷ behind) at)
+  pub answers-history : (end : Side) (w : What) (n : ℤ) (before following : List Line) → history ≡ before ++ line_of end w ∷ following → number_answered w ≡ Some n → MayAnswer schema (said_by end before) (said_by (other end) before) n
+  answers-history end w n before following at is =
+      may-answer schema end w before (legal-line schema sound top moves end w before following at) n is
+      (last-not-left schema history history-prefix end (delivered-once end) before (line_of end w ∷ following) at)
 
   -- a request that is replaced
-  pub replaced-history : (end : Side) (n : ℤ) (before behind : List Line) → history ≡ before ++ line_of end (what.Replaced n) ∷ behind
-      → (asked : Request) × (request_of (sent schema (said_by (other_end end) before)) n ≡ Some asked) × HasEffects end (fault_due asked.wants n reason.ResolverDestroyed) behind
-  replaced-history end n before behind at =
-      let i : EffectIn (MoveAt schema top moves end) end (what.Replaced n) before behind = effect-at schema sound top moves end (what.Replaced n) before behind refl at in
-      replaced-at schema end n before behind i.start i.output (legal-step schema sound top moves end i.start i.output i.by) i.event i.earlier i.more i.before_is i.lines i.has
+  pub replaced-history : (end : Side) (n : ℤ) (before following : List Line) → history ≡ before ++ line_of end (what.Replaced n) ∷ following
+      → (asked : Request) × (request_of (sent schema (said_by (other end) before)) n ≡ Some asked) × HasEffects end (fault_due asked.wants n reason.ResolverDestroyed) following
+  replaced-history end n before following at =
+      let i : EffectIn (MoveAt schema top moves end) end (what.Replaced n) before following = effect-at schema sound top moves end (what.Replaced n) before following refl at in
+      replaced-at schema end n before following i.start i.output (legal-step schema sound top moves end i.start i.output i.by) i.event i.earlier i.more i.before_is i.lines i.has
 
   -- a reply that is taken too late
-  pub late-history : (end : Side) (n : ℤ) (before behind : List Line) → history ≡ before ++ line_of end (what.TakeReply n) ∷ behind → IsTrue (has (settled (said_by end before)) n) → Contains (said_by end before) (what.Rejected n reason.ActorDestroyed)
-  late-history end n before behind at done =
-      let i : EventIn (KeptStep schema SettledAreDone end) end (what.TakeReply n) before behind = history-kept schema sound SettledAreDone (settled-done schema) top moves end (what.TakeReply n) before behind refl at in
+  pub late-history : (end : Side) (n : ℤ) (before following : List Line) → history ≡ before ++ line_of end (what.TakeReply n) ∷ following → IsTrue (has (settled (said_by end before)) n) → Contains (said_by end before) (what.Rejected n reason.ActorDestroyed)
+  late-history end n before following at done =
+      let i : EventIn (KeptStep schema SettledAreDone end) end (what.TakeReply n) before following = history-kept schema sound SettledAreDone (settled-done schema) top moves end (what.TakeReply n) before following refl at in
       let takes : takes_in_state i.by.e.state ≡ true = reply-takes schema i.by.e i.by.link i.by.happened i.output i.by.made n (line-of-event schema i.by.e i.by.link i.by.happened i.output end (what.TakeReply n) i.effects i.by.made i.lines) in
       by (i.by.kept takes n done)
     where
       by : IsDone (said_by end before) n → Contains (said_by end before) (what.Rejected n reason.ActorDestroyed)
       by (inl c) = c
-      by (inr taken) = absurd (false≢true (sym (history-prefix.replies end n before behind at).1 ∙ taken))
+      by (inr taken) = absurd (false≢true (sym (history-prefix.replies end n before following at).1 ∙ taken))
 
   -- all clauses
   pub answers-hold : Answers schema history

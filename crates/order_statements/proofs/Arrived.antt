@@ -26,7 +26,7 @@ use Rattle.law_statements.proofs.Lists.{add, any-add, made-add}
 use Rattle.order_statements.specs.Order.{still_waits}
 use Rattle.order_statements.specs.Waiting.{waiting}
 
--- the packets of a list but for one
+-- the packets of a list except for one
 abbrev others : PacketKind → List PacketKind → List PacketKind
 others q xs = filter (λ x. not (same_packet x q)) xs
 
@@ -94,7 +94,7 @@ waiting-leaves (arrives p ∷ ps) q =
 waiting-leaves (leaves p ∷ ps) q = waiting-leaves ps q
 waiting-leaves (gives_up ∷ ps) q = waiting-leaves ps q
 
--- The one that leaves is the first, where it stands but once
+-- The packet that leaves is the first, if it is there only once
 
 others-none : (q : PacketKind) (xs : List PacketKind) → held q xs ≡ 0 → others q xs ≡ xs
 others-none q [] e = refl
@@ -201,7 +201,7 @@ once-arrived schema said requests replies = record {
 
 -- Places
 
--- A packet that waits, with the passings before and after its arrival. Each older one that waits then stands among these.
+-- A packet that waits, with the passings before and after its arrival. Each older one that waits then is among these.
 pub record WaitsAt (ps : List Passing) (olders : List PacketKind) (p : PacketKind) : Type 0 where
   pub earlier : List Passing
   pub later : List Passing
@@ -210,8 +210,8 @@ pub record WaitsAt (ps : List Passing) (olders : List PacketKind) (p : PacketKin
   pub older : (q : PacketKind) (front back : List Passing) → earlier ≡ front ++ arrives q ∷ back → IsTrue (still_waits q (back ++ arrives p ∷ later)) → In q olders
 
 -- one more passing before
-behind : (x : Passing) (ps : List Passing) (xs ys : List PacketKind) (p : PacketKind) → ((q : PacketKind) → x ≡ arrives q → IsTrue (still_waits q ps) → In q ys) → ((q : PacketKind) → In q xs → In q ys) → WaitsAt ps xs p → WaitsAt (x ∷ ps) ys p
-behind x ps xs ys p first rest h = record {
+following : (x : Passing) (ps : List Passing) (xs ys : List PacketKind) (p : PacketKind) → ((q : PacketKind) → x ≡ arrives q → IsTrue (still_waits q ps) → In q ys) → ((q : PacketKind) → In q xs → In q ys) → WaitsAt ps xs p → WaitsAt (x ∷ ps) ys p
+following x ps xs ys p first rest h = record {
   earlier = x ∷ h.earlier;
   later = h.later;
   whole = ap (λ (zs : List Passing). x ∷ zs) h.whole;
@@ -233,20 +233,20 @@ no-place (y ∷ front) back x e = cc
 pub waits-at : (ps : List Passing) (xs ys : List PacketKind) (p : PacketKind) → waiting ps ≡ xs ++ p ∷ ys → WaitsAt ps xs p
 waits-at [] [] ys p e = cc
 waits-at [] (x ∷ xs) ys p e = cc
-waits-at (leaves q ∷ ps) xs ys p e = behind (leaves q) ps xs xs p (λ r is w. cc) (λ r i. i) (waits-at ps xs ys p e)
-waits-at (gives_up ∷ ps) xs ys p e = behind gives_up ps xs xs p (λ r is w. cc) (λ r i. i) (waits-at ps xs ys p e)
+waits-at (leaves q ∷ ps) xs ys p e = following (leaves q) ps xs xs p (λ r is w. cc) (λ r i. i) (waits-at ps xs ys p e)
+waits-at (gives_up ∷ ps) xs ys p e = following gives_up ps xs xs p (λ r is w. cc) (λ r i. i) (waits-at ps xs ys p e)
 waits-at (arrives q ∷ ps) xs ys p e = by (still_waits q ps) refl xs e (λ zs k. waits-at ps zs ys p k)
   where
     by : (b : Bool) → still_waits q ps ≡ b → (xs : List PacketKind) → (if b then q ∷ waiting ps else waiting ps) ≡ xs ++ p ∷ ys → ((zs : List PacketKind) → waiting ps ≡ zs ++ p ∷ ys → WaitsAt ps zs p) → WaitsAt (arrives q ∷ ps) xs p
-    by false is xs e rec = behind (arrives q) ps xs xs p (λ r same w. let s : q ≡ r = cc in let k : still_waits r ps ≡ false = subst (λ (z : PacketKind). still_waits z ps ≡ false) s is in cc) (λ r i. i) (rec xs e)
+    by false is xs e rec = following (arrives q) ps xs xs p (λ r same w. let s : q ≡ r = cc in let k : still_waits r ps ≡ false = subst (λ (z : PacketKind). still_waits z ps ≡ false) s is in cc) (λ r i. i) (rec xs e)
     by true is [] e rec =
         let same : q ≡ p = cc in
         subst (WaitsAt (arrives q ∷ ps) []) same (record { earlier = []; later = ps; whole = refl; waits = is; older = λ r front back k w. absurd (no-place front back (arrives r) k) })
     by true is (x ∷ xs) e rec =
         let same : q ≡ x = cc in
-        behind (arrives q) ps xs (x ∷ xs) p (λ r k w. let s : x ≡ r = cc in subst (λ (z : PacketKind). In r (z ∷ xs)) (sym s) here) (λ r i. there i) (rec xs cc)
+        following (arrives q) ps xs (x ∷ xs) p (λ r k w. let s : x ≡ r = cc in subst (λ (z : PacketKind). In r (z ∷ xs)) (sym s) here) (λ r i. there i) (rec xs cc)
 
--- what arrived and still waits is among all that waits
+-- a packet that arrived and still waits is among all that wait
 pub waits-in : (ps earlier later : List Passing) (p : PacketKind) → ps ≡ earlier ++ arrives p ∷ later → IsTrue (still_waits p later) → In p (waiting ps)
 waits-in ps earlier later p e w = subst (λ (zs : List Passing). In p (waiting zs)) (sym e) (by earlier)
   where

@@ -1,4 +1,4 @@
--- Each reply that has arrived at an end and waits to be taken is to a promise of the end, in every run.
+-- Each reply that has arrived at an end and waits to be taken is for a promise of the end, in every run.
 use Rattle.std.proofs.Common.{◌≡◌, ℕ, ℤ, Bool, true, false, ◌||◌, if◌then◌else◌, List, [], ◌∷◌, ◌++◌, map, Option, Some, None, refl, sym, ap, subst, ◌∙◌}
 use Rattle.std.specs.List.{AllByRecursion, list_any}
 use Rattle.std.specs.Option.{option_map_or}
@@ -28,7 +28,7 @@ use Rattle.channel_model.specs.Events as event
 use Rattle.channel_model.specs.Events.{Move}
 use Rattle.channel_model.specs.Outputs.{Output, body_of, is_open, line_at}
 use Rattle.channel_model.specs.Parts
-use Rattle.channel_model.specs.Parts.{DeliveryPart, OwnParts, end_behind, farewell_item}
+use Rattle.channel_model.specs.Parts.{DeliveryPart, OwnParts, end_after, farewell_item}
 use Rattle.channel_model.specs.Phases.{Phase}
 use Rattle.channel_model.specs.Refusals.{DeliveryRefusal, body_refusal, is_expected_reply, is_promised, is_replied_to, is_waited_for, packet_refusal, stray, actor_refusal}
 use Rattle.channel_model.specs.Runs.{history_of, run}
@@ -69,7 +69,7 @@ abbrev pub ItemIsPromised : List Promised → Item → Type 0
 ItemIsPromised promises (item.Message m sync level) = BodyIsPromised promises m m.body
 ItemIsPromised promises item.Broken = Unit {0}
 
--- What has arrived at an end and is a reply is to a promise that the end has made.
+-- Each reply that has arrived at an end is for a promise that the end has made.
 abbrev pub RepliesArePromised : End → EndReading → Type 0
 RepliesArePromised e own = AllByRecursion (ItemIsPromised (promised_in (requests_of own.sent))) e.arrived
 
@@ -133,13 +133,13 @@ module _ (schema : Schema) (e : End) (own : EndReading) (exchanges : ReadsExchan
       all-append (ItemIsPromised ps) (staying row.compress (delivery.item_of row m) e.arrived) (delivery.item_of row m ∷ []) (all-sublist (ItemIsPromised ps) (staying row.compress (delivery.item_of row m) e.arrived) e.arrived (staying-sublist row.compress (delivery.item_of row m) e.arrived) h)
       (subst (BodyIsPromised ps m) (sym body) tt, tt)
 
-  behind-promised : (b : Bool) (f : End) → AllByRecursion (ItemIsPromised ps) f.arrived → AllByRecursion (ItemIsPromised ps) (end_behind b f).arrived
-  behind-promised true f h = h
-  behind-promised false f h = h
+  following-promised : (b : Bool) (f : End) → AllByRecursion (ItemIsPromised ps) f.arrived → AllByRecursion (ItemIsPromised ps) (end_after b f).arrived
+  following-promised true f h = h
+  following-promised false f h = h
 
   delivery-promised : {packet : Packet} {f : End} {ws : List What} {qs : List Packet} {q : Phase} → DeliveryPart schema packet e ws qs f q → packet_refusal schema e packet ≡ None → RepliesArePromised e own → AllByRecursion (ItemIsPromised ps) f.arrived
   delivery-promised (Parts.gets_request m row vs body found none) accepted h = counted-promised row m vs body h
-  delivery-promised (Parts.replaces m row vs old sync level replies body found rep is) accepted h = behind-promised replies (delivery.counted row (delivery.item_of row m) e) (counted-promised row m vs body h)
+  delivery-promised (Parts.replaces m row vs old sync level replies body found rep is) accepted h = following-promised replies (delivery.counted row (delivery.item_of row m) e) (counted-promised row m vs body h)
   delivery-promised (Parts.gets_answer m row a body found sync) accepted h = h
   delivery-promised (Parts.gets_reply m row a body found async) accepted h =
       let unrefused : body_refusal schema e m (body_of a) row ≡ None =
@@ -151,7 +151,7 @@ module _ (schema : Schema) (e : End) (own : EndReading) (exchanges : ReadsExchan
   delivery-promised {packet} (Parts.drains _ is) accepted h = all-append (ItemIsPromised ps) e.arrived (farewell_item packet ∷ []) h (farewell-promised ps packet is, tt)
   delivery-promised (Parts.passes_by m other found) accepted h = h
 
-  -- a step keeps them so, where a packet that it delivers is not refused
+  -- a step keeps this, if a packet that it delivers is not refused
   pub parts-promised : (place : ℕ) (link : List Packet) {happened : event.Event} {ws : List What} {qs : List Packet} {f : End} {q : Phase} → StepParts schema e link happened ws qs f q
       → ((packet : Packet) → first_packet link ≡ Some packet → is_open e.state ≡ true → packet_refusal schema e packet ≡ None) → RepliesArePromised e own → RepliesArePromised f (after_whats schema place ws own)
   parts-promised place link {ws = ws} {f = f} part accepted h = let g = grows schema place ws own in promised-more f own (after_whats schema place ws own) g.0 g.1 (by part)
@@ -180,7 +180,7 @@ module _ (schema : Schema) (sound : IsSound schema) where
       record {
         kept = ends-keep schema RepliesArePromised move.side move.event w r output m.nested m.ends
             (parts-promised schema (end_of move.side w) (end_reading_of move.side r) exchanges.0 r.lines (link_to move.side w) m.ends.parts (reached-accepts w r m.reached move.side) both.0) both.1;
-        passes = λ behind. all-pass schema r output.lines behind;
+        passes = λ following. all-pass schema r output.lines following;
       }
 
   pub replies-promised : (top : ℕ) (moves : List Move) → AtEnds schema RepliesArePromised (run schema moves (opening top)).world (read_from schema opening_reading (history_of schema top moves))

@@ -1,4 +1,5 @@
--- The requests of the other end that an end handles or may answer, as the lines of the other tell them, in legal histories.
+-- The requests of the other end that an end handles or may answer, as the lines of the other end show them, in legal
+-- histories.
 use Rattle.std.proofs.Common.{◌≡◌, ℕ, ℤ, Bool, true, false, if◌then◌else◌, int_eq, List, [], ◌∷◌, ◌++◌, Option, Some, None, refl, sym, ap, ◌∙◌}
 use Rattle.std.specs.List.{AllByRecursion, cons_option}
 use Rattle.ipdl_base.specs.declared.kinds.Side.{Side}
@@ -24,23 +25,24 @@ use Rattle.channel_laws.proofs.Growing.{own-request}
 use Rattle.channel_laws.proofs.Track.{all-found}
 use Rattle.channel_laws.proofs.WorldReading.{reading_is_world}
 use Rattle.law_statements.specs.Packets.{sent, sent_at}
-use Rattle.law_statements.specs.Said.{made_of, other_end, said_by}
+use Rattle.ipdl_base.specs.Sides.{other as other_end}
+use Rattle.law_statements.specs.Said.{made_of, said_by}
 use Rattle.law_statements.proofs.Fields.{sent-read}
 
--- What was sent as a request of a number: of this message, and with a promise where its message has one.
+-- A request of a number was sent: it is of this message, and has a promise exactly where its message makes one.
 pub record IsAsked (schema : Schema) (other : List What) (n : ℤ) (number : ℕ) : Type 0 where
   pub asked : Request
   pub found : request_of (sent schema other) n ≡ Some asked
   pub number_is : asked.number ≡ number
   pub wants_is : asked.wants ≡ wants_number schema number
 
--- All that an end handles or may answer comes from requests that the other has said that it sent.
+-- All that an end handles or may answer belongs to requests that the other end has sent, by its lines.
 pub record KnowsAsked (schema : Schema) (other : List What) (e : End) : Type 0 where
   pub theirs : List Note
   pub origins : HasOrigins schema theirs e
   pub asks : (seq route : ℤ) (number : ℕ) → IsRequested theirs seq route number → IsAsked schema other seq number
 
--- Requests that were sent have promises where their messages have
+-- Requests that were sent have promises exactly where their messages make them
 
 abbrev WantsRight : Schema → Request → Type 0
 WantsRight schema r = r.wants ≡ wants_number schema r.number

@@ -31,7 +31,7 @@ use Rattle.order_statements.proofs.SentRequests.{IsSend, sent-by}
 use Rattle.order_statements.proofs.TakenRequests.{TakenRequest, taken-by}
 use Rattle.order_statements.proofs.Tells.{EndTells, EventsAreTold, TellingStep, effects-are, told-after}
 
--- a constructor's row constructs
+-- the row of a constructor
 made-kind : (kind : Kind) (protocol : ℕ) → protocol_made kind ≡ Some protocol → kind ≡ Constructor protocol
 made-kind Normal protocol h = cc
 made-kind (Constructor made) protocol h = let same : made ≡ protocol = cc in ap (λ (p : ℕ). Constructor p) same
@@ -40,9 +40,9 @@ made-kind Delete protocol h = cc
 constructor-row : (schema : Schema) (number protocol : ℕ) (row : MessageRow) → message_of schema number ≡ Some row → constructor_of schema number ≡ Some protocol → row.kind ≡ Constructor protocol
 constructor-row schema number protocol row found is = made-kind row.kind protocol (sym (ap (λ (r : Option MessageRow). option_map_or (λ (x : MessageRow). protocol_made x.kind) r None) found) ∙ is)
 
--- The effects of an event that builds, as its lines tell.
-module _ (schema : Schema) {end : Side} {w : What} {before behind : List Line} (i : EventIn (TellingStep schema end) end w before behind) where
-  built-by : (first : What) (lost : List What) (id : ℤ) (protocol : ℕ) (route : ℤ) → Builds i.by.e i.output first lost id protocol route → IsBuilt end (said_by end before ++ w ∷ []) lost protocol behind
+-- The effects of an event that builds, as its lines show them.
+module _ (schema : Schema) {end : Side} {w : What} {before following : List Line} (i : EventIn (TellingStep schema end) end w before following) where
+  built-by : (first : What) (lost : List What) (id : ℤ) (protocol : ℕ) (route : ℤ) → Builds i.by.e i.output first lost id protocol route → IsBuilt end (said_by end before ++ w ∷ []) lost protocol following
   built-by first lost id protocol route b =
       let is : i.effects ≡ lost ++ what.Built id protocol ∷ [] = effects-are schema i first (lost ++ what.Built id protocol ∷ []) b.lines in
       let t : EndTells schema i.output.end end (before ++ i.output.lines) = i.by.tells_after in
@@ -51,11 +51,11 @@ module _ (schema : Schema) {end : Side} {w : What} {before behind : List Line} (
       in
       record {
         id = id;
-        are = subst (λ (ws : List What). HasEffects end ws behind) is i.has;
+        are = subst (λ (ws : List What). HasEffects end ws following) is i.has;
         alive = subst (λ (ws : List What). IsTrue (lives ws id)) said (t.alive id ∙ b.alive);
       }
 
--- What a name lets go: at most the answer for one resolver
+-- What a name loses: at most the answer for one resolver
 
 few-lost : (b : Bool) (held : Option NameContent) → length (let_go_lines b held) ≤ 1
 few-lost b None = omega arith
@@ -70,10 +70,10 @@ answers-lost true (Some (resolver r)) = refl
 answers-lost false (Some (resolver r)) = refl
 
 module _ (schema : Schema) (lines : List Line) (told : EventsAreTold schema lines) where
-  pub sends-build : (end : Side) (w : What) (q : HandledRequest) (protocol : ℕ) (before behind : List Line) → lines ≡ before ++ line_of end w ∷ behind → request_sent w ≡ Some q → constructor_of schema q.number ≡ Some protocol
-      → IsBuiltBySend end (said_by end before ++ w ∷ []) protocol behind
-  sends-build end w q protocol before behind at asked constructor =
-      let i = told end w before behind (request-event w q asked) at in
+  pub sends-build : (end : Side) (w : What) (q : HandledRequest) (protocol : ℕ) (before following : List Line) → lines ≡ before ++ line_of end w ∷ following → request_sent w ≡ Some q → constructor_of schema q.number ≡ Some protocol
+      → IsBuiltBySend end (said_by end before ++ w ∷ []) protocol following
+  sends-build end w q protocol before following at asked constructor =
+      let i = told end w before following (request-event w q asked) at in
       let e : End = i.by.e in
       let s : IsSend schema e i.by.happened w q = sent-by schema e i.by.link i.output end w i.effects q asked i.by.happened i.by.made i.lines in
       let made : step schema e i.by.link (event.send q.route s.number s.values s.name) ≡ Some i.output = sym (ap (step schema e i.by.link) s.happens) ∙ i.by.made in
@@ -86,10 +86,10 @@ module _ (schema : Schema) (lines : List Line) (told : EventsAreTold schema line
         builds = built-by schema i (sends.send_line s.row (sends.request_of e s.row q.route s.values) s.values) lost (sends.request_of e s.row q.route s.values).made protocol q.route b;
       }
 
-  pub takes-build : (end : Side) (n route : ℤ) (number protocol : ℕ) (values : Values) (before behind : List Line) → lines ≡ before ++ line_of end (what.Take n route number values) ∷ behind → constructor_of schema number ≡ Some protocol
-      → IsBuilt end (said_by end before ++ what.Take n route number values ∷ []) [] protocol behind
-  takes-build end n route number protocol values before behind at constructor =
-      let i = told end (what.Take n route number values) before behind refl at in
+  pub takes-build : (end : Side) (n route : ℤ) (number protocol : ℕ) (values : Values) (before following : List Line) → lines ≡ before ++ line_of end (what.Take n route number values) ∷ following → constructor_of schema number ≡ Some protocol
+      → IsBuilt end (said_by end before ++ what.Take n route number values ∷ []) [] protocol following
+  takes-build end n route number protocol values before following at constructor =
+      let i = told end (what.Take n route number values) before following refl at in
       let e : End = i.by.e in
       let t : TakenRequest schema e i.by.happened n route number = taken-by schema e i.by.link i.output end n route number values i.effects i.lines i.by.tells.theirs i.by.tells.origins i.by.happened i.by.made in
       let made : step schema e i.by.link event.take ≡ Some i.output = sym (ap (step schema e i.by.link) t.happens) ∙ i.by.made in

@@ -19,6 +19,7 @@ use Rattle.ipdl_base.specs.declared.schema.Schema.{Schema}
 use Rattle.ipdl_base.specs.declared.value.Values.{Values}
 use Rattle.ipdl_base.specs.Lines.{is_effect}
 use Rattle.ipdl_base.specs.Sound.{message_of}
+use Rattle.ipdl_base.specs.Sides.{top_id}
 use Rattle.history_reading.specs.declared.parts.BuiltActor.{BuiltActor}
 use Rattle.history_reading.specs.declared.parts.CallFrame.{CallFrame}
 use Rattle.history_reading.specs.declared.parts.CallFrame.TheVariants as frame
@@ -36,7 +37,7 @@ use Rattle.channel_model.proofs.SendParts.{request-number}
 use Rattle.channel_laws.specs.EndActors.{HasIds, built_ids, shown_actor, standing, is_standing}
 use Rattle.channel_laws.specs.Notes.{In, here, there}
 use Rattle.channel_laws.proofs.ActorsKept.{zero-free}
-use Rattle.channel_laws.proofs.Growing.{in-all, in-before, in-behind}
+use Rattle.channel_laws.proofs.Growing.{in-all, in-before, in-following}
 use Rattle.channel_laws.proofs.Standing.{alive-built, alive-unfallen, built-lives}
 use Rattle.progress_laws.proofs.Members.{in-filter}
 use Rattle.law_statements.specs.Actors.{built, built_at, fallen, lives}
@@ -64,11 +65,11 @@ use Rattle.order_statements.proofs.Tells.{EndTells, EventsAreTold, TellingStep, 
 built-more : (xs ys : List BuiltActor) (id : ℤ) → was_built xs id ≡ true → was_built (xs ++ ys) id ≡ true
 built-more xs ys id h = list_any-append (λ (a : BuiltActor). int_eq a.id id) xs ys ∙ ap (λ (b : Bool). b || was_built ys id) h
 
--- who was built was built also when more is said
+-- an actor that was built is still built when more is printed
 pub built-later : (own more : List What) (id : ℤ) → was_built (built own) id ≡ true → was_built (built (own ++ more)) id ≡ true
-built-later own more id h = subst (λ (xs : List BuiltActor). was_built (record { id = pos 2147483647; manager = pos 0 } ∷ xs) id ≡ true) (sym (made-append built_at [] own more)) (built-more (built own) _ id h)
+built-later own more id h = subst (λ (xs : List BuiltActor). was_built (record { id = top_id; manager = pos 0 } ∷ xs) id ≡ true) (sym (made-append built_at [] own more)) (built-more (built own) _ id h)
 
--- one of a list is there
+-- an actor in the list was built
 built-in : (earlier : List BuiltActor) (a : BuiltActor) (later : List BuiltActor) (id : ℤ) → a.id ≡ id → was_built (earlier ++ a ∷ later) id ≡ true
 built-in [] a later id e = ap (λ (b : Bool). b || was_built later id) ((Decides-int_eq a.id id).1 e)
 built-in (x ∷ earlier) a later id e = either (int_eq x.id id) (was_built (earlier ++ a ∷ later) id) (built-in earlier a later id e)
@@ -77,15 +78,15 @@ built-in (x ∷ earlier) a later id e = either (int_eq x.id id) (was_built (earl
     either true c h = refl
     either false c h = h
 
--- who is below another was built
+-- an actor that is below another was built
 below-built : (actors : List BuiltActor) (id top : ℤ) → IsBelow actors id top → was_built actors id ≡ true
 below-built actors id top (under _ earlier later a _ _ is e none manager) = subst (λ (xs : List BuiltActor). was_built xs id ≡ true) (sym is) (built-in earlier a later id e)
 below-built actors id top (further _ earlier later a _ _ is e none more) = subst (λ (xs : List BuiltActor). was_built xs id ≡ true) (sym is) (built-in earlier a later id e)
 
 in-middle : (earlier : List BuiltActor) (a : BuiltActor) (later : List BuiltActor) → In a (earlier ++ a ∷ later)
-in-middle earlier a later = in-behind earlier here
+in-middle earlier a later = in-following earlier here
 
--- What stands below
+-- The actors below
 
 in-shown : (xs : List Actor) (a : BuiltActor) → In a (map shown_actor xs) → (x : Actor) × In x xs × (shown_actor x ≡ a)
 in-shown [] a i = elim i [ ]
@@ -116,7 +117,7 @@ module _ (all : List BuiltActor) (gone : List ℤ) (actors : List Actor) (stands
       by true is = alive is
       by false is = is
 
-  -- nobody lives below an actor that does not
+  -- no actor lives below an actor that does not
   below-gone : (top : ℤ) → was_built all top ≡ true → tree.lives top actors ≡ false → (front rest : List BuiltActor) (id : ℤ) → all ≡ front ++ rest → IsBelow front id top → tree.lives id actors ≡ false
   below-gone top there-is dead front rest id whole (under _ earlier later a _ _ is e none manager) =
       let i : In a all = subst (In a) (sym (whole ∙ ap (λ (xs : List BuiltActor). xs ++ rest) is)) (in-before rest (in-middle earlier a later)) in
@@ -127,7 +128,7 @@ module _ (all : List BuiltActor) (gone : List ℤ) (actors : List Actor) (stands
       let manager : was_built all a.manager ≡ true = subst (λ (xs : List BuiltActor). was_built xs a.manager ≡ true) (sym split) (built-more earlier (a ∷ later ++ rest) a.manager (below-built earlier a.manager top more)) in
       subst (λ (n : ℤ). tree.lives n actors ≡ false) e (one-gone a i manager (below-gone top there-is dead earlier (a ∷ later ++ rest) a.manager split more))
 
--- nobody was built with the id 0
+-- no actor was built with the id 0
 none-zero : (schema : Schema) (e : End) (all : List BuiltActor) → HasIds schema [] e all → was_built all (pos 0) ≡ false
 none-zero schema e all ids = by (was_built all (pos 0)) refl
   where
@@ -136,8 +137,8 @@ none-zero schema e all ids = by (was_built all (pos 0)) refl
     by false is = is
 
 -- An actor that was built, and does not live after an event and its effects, is deleted.
-pub deleted-after : (schema : Schema) {end : Side} {w : What} {before behind : List Line} (i : EventIn (TellingStep schema end) end w before behind) (id : ℤ) → was_built (built (said_by end before)) id ≡ true → tree.lives id i.output.end.actors ≡ false
-    → IsDeleted end (said_by end before ++ w ∷ []) id behind
+pub deleted-after : (schema : Schema) {end : Side} {w : What} {before following : List Line} (i : EventIn (TellingStep schema end) end w before following) (id : ℤ) → was_built (built (said_by end before)) id ≡ true → tree.lives id i.output.end.actors ≡ false
+    → IsDeleted end (said_by end before ++ w ∷ []) id following
 deleted-after schema {end} {w} {before} i id there-is dead =
     let t : EndTells schema i.output.end end (before ++ i.output.lines) = i.by.tells_after in
     let same : said_by end (before ++ i.output.lines) ≡ (said_by end before ++ w ∷ []) ++ i.effects = told-after schema i ∙ sym (append_assoc (said_by end before) (w ∷ []) i.effects) in
@@ -158,7 +159,7 @@ deletes-kind Normal h = cc
 deletes-kind (Constructor protocol) h = cc
 deletes-kind Delete h = refl
 
--- a destructor's row deletes
+-- the row of a destructor
 pub destructor-row : (schema : Schema) (number : ℕ) (row : MessageRow) → message_of schema number ≡ Some row → IsTrue (is_destructor schema number) → row.kind ≡ Delete
 destructor-row schema number row found is = deletes-kind row.kind (sym (ap (λ (r : Option MessageRow). option_map_or (λ (x : MessageRow). deletes x.kind) r false) found) ∙ is)
 
@@ -168,10 +169,10 @@ request-event (what.Call n transaction route number values) q h = refl
 request-event _ q h = cc
 
 pub sends-delete : (schema : Schema) (lines : List Line) → EventsAreTold schema lines
-    → (end : Side) (w : What) (q : HandledRequest) (before behind : List Line) → lines ≡ before ++ line_of end w ∷ behind → request_sent w ≡ Some q → IsTrue (is_destructor schema q.number)
-    → IsDeleted end (said_by end before ++ w ∷ []) q.route behind
-sends-delete schema lines told end w q before behind at asked destructor =
-    let i = told end w before behind (request-event w q asked) at in
+    → (end : Side) (w : What) (q : HandledRequest) (before following : List Line) → lines ≡ before ++ line_of end w ∷ following → request_sent w ≡ Some q → IsTrue (is_destructor schema q.number)
+    → IsDeleted end (said_by end before ++ w ∷ []) q.route following
+sends-delete schema lines told end w q before following at asked destructor =
+    let i = told end w before following (request-event w q asked) at in
     let e : End = i.by.e in
     let s : IsSend schema e i.by.happened w q = sent-by schema e i.by.link i.output end w i.effects q asked i.by.happened i.by.made i.lines in
     let made : step schema e i.by.link (event.send q.route s.number s.values s.name) ≡ Some i.output = sym (ap (step schema e i.by.link) s.happens) ∙ i.by.made in
@@ -196,23 +197,23 @@ said-take end front w back =
 
 module _ (schema : Schema) (lines : List Line) (told : EventsAreTold schema lines) where
   -- the actor of a request that is handled was built
-  pub dispatch-built : (end : Side) (before behind : List Line) (d : HandledRequest) (below : List CallFrame) → lines ≡ before ++ behind → stack schema end before ≡ frame.Dispatch d ∷ below → was_built (built (said_by end before)) d.route ≡ true
-  dispatch-built end before behind d below at top =
+  pub dispatch-built : (end : Side) (before following : List Line) (d : HandledRequest) (below : List CallFrame) → lines ≡ before ++ following → stack schema end before ≡ frame.Dispatch d ∷ below → was_built (built (said_by end before)) d.route ≡ true
+  dispatch-built end before following d below at top =
       let p : TakePlace end d before = take-place schema end before d below top in
       let w : What = what.Take d.seq d.route d.number p.values in
-      let place : lines ≡ p.front ++ line_of end w ∷ (p.back ++ behind) = at ∙ (ap (λ (ls : List Line). ls ++ behind) p.is ∙ append_assoc p.front (line_of end w ∷ p.back) behind) in
-      let i = told end w p.front (p.back ++ behind) refl place in
+      let place : lines ≡ p.front ++ line_of end w ∷ (p.back ++ following) = at ∙ (ap (λ (ls : List Line). ls ++ following) p.is ∙ append_assoc p.front (line_of end w ∷ p.back) following) in
+      let i = told end w p.front (p.back ++ following) refl place in
       let t : EndTells schema i.by.e end p.front = i.by.tells in
       let alive : tree.lives d.route i.by.e.actors ≡ true = taken-alive (taken-by schema i.by.e i.by.link i.output end d.seq d.route d.number p.values i.effects i.lines t.theirs t.origins i.by.happened i.by.made) in
       let then_built : was_built (built (said_by end p.front)) d.route ≡ true = alive-built (built (said_by end p.front)) (fallen (said_by end p.front)) i.by.e.actors d.route t.living alive in
       subst (λ (ws : List What). was_built (built ws) d.route ≡ true) (sym (ap (said_by end) p.is ∙ said-take end p.front w p.back)) (built-later (said_by end p.front) (w ∷ said_by end p.back) d.route then_built)
 
-  module _ (end : Side) (n : ℤ) (d : HandledRequest) (below : List CallFrame) (before behind : List Line) (at : lines ≡ before ++ line_of end (what.Return n) ∷ behind) (top : stack schema end before ≡ frame.Dispatch d ∷ below) (destructor : IsTrue (is_destructor schema d.number)) where
-    place : EventIn (TellingStep schema end) end (what.Return n) before behind
-    place = told end (what.Return n) before behind refl at
+  module _ (end : Side) (n : ℤ) (d : HandledRequest) (below : List CallFrame) (before following : List Line) (at : lines ≡ before ++ line_of end (what.Return n) ∷ following) (top : stack schema end before ≡ frame.Dispatch d ∷ below) (destructor : IsTrue (is_destructor schema d.number)) where
+    place : EventIn (TellingStep schema end) end (what.Return n) before following
+    place = told end (what.Return n) before following refl at
 
     abbrev Result : Type 0
-    Result = IsDeleted end (said_by end before ++ what.Return d.seq ∷ []) d.route behind
+    Result = IsDeleted end (said_by end before ++ what.Return d.seq ∷ []) d.route following
 
     returned : (values : Option Values) (entry : StackEntry) (row : MessageRow) → dispatch_on_top place.by.e.stack ≡ Some entry → request_row schema entry.number ≡ Some row → step schema place.by.e place.by.link (event.return values) ≡ Some place.output → Result
     returned values entry row on_top found made =
@@ -224,8 +225,8 @@ module _ (schema : Schema) (lines : List Line) (told : EventsAreTold schema line
         let number : what.Return n ≡ what.Return (head_of entry.frame).seq =
         first-is end (what.Return n) (what.Return (head_of entry.frame).seq) place.effects place.output.lines (subst (FirstLine (λ x. x ≡ what.Return (head_of entry.frame).seq)) (sym said) refl) place.lines
         in
-        subst (λ (w : What). IsDeleted end (said_by end before ++ w ∷ []) d.route behind) (number ∙ ap (λ (q : HandledRequest). what.Return q.seq) request)
-        (deleted-after schema place d.route (dispatch-built end before (line_of end (what.Return n) ∷ behind) d below at top) (subst (λ (q : HandledRequest). tree.lives q.route place.output.end.actors ≡ false) request dead))
+        subst (λ (w : What). IsDeleted end (said_by end before ++ w ∷ []) d.route following) (number ∙ ap (λ (q : HandledRequest). what.Return q.seq) request)
+        (deleted-after schema place d.route (dispatch-built end before (line_of end (what.Return n) ∷ following) d below at top) (subst (λ (q : HandledRequest). tree.lives q.route place.output.end.actors ≡ false) request dead))
 
     by-return : (ev : Event) → step schema place.by.e place.by.link ev ≡ Some place.output → is_return ev ≡ true → Result
     by-return (event.return values) made kind =

@@ -37,18 +37,18 @@ no-wait : {A : Type 0} (b : Bool) (c : Call) (d : HandledRequest) → frame.Disp
 no-wait true c d e = cc
 no-wait false c d e = cc
 
--- a frame of a line that is a dispatch is of its take
-of-take : (sync : ℤ → Bool) (behind : List What) (place : ℕ) (w : What) (d : HandledRequest) → In (frame.Dispatch d) (option_to_list (frame_of sync behind place w)) → (values : Values) × (w ≡ what.Take d.seq d.route d.number values)
-of-take sync behind place (what.Take n route number values) d i =
+-- a dispatch among the frames of a line is that of its take
+of-take : (sync : ℤ → Bool) (following : List What) (place : ℕ) (w : What) (d : HandledRequest) → In (frame.Dispatch d) (option_to_list (frame_of sync following place w)) → (values : Values) × (w ≡ what.Take d.seq d.route d.number values)
+of-take sync following place (what.Take n route number values) d i =
     let same : frame.Dispatch d ≡ frame.Dispatch (record { seq = n; route = route; number = number }) = only-one (frame.Dispatch d) (frame.Dispatch (record { seq = n; route = route; number = number })) i in
     let is : d ≡ record { seq = n; route = route; number = number } = cc in
     (values, sym (ap (λ (x : HandledRequest). what.Take x.seq x.route x.number values) is))
-of-take sync behind place (what.Call n transaction route number values) d i = no-wait _ _ d (only-one (frame.Dispatch d) _ i)
-of-take sync behind place _ d i = elim i [ ]
+of-take sync following place (what.Call n transaction route number values) d i = no-wait _ _ d (only-one (frame.Dispatch d) _ i)
+of-take sync following place _ d i = elim i [ ]
 
-of-stay : (b : Bool) (sync : ℤ → Bool) (behind : List What) (place : ℕ) (w : What) (d : HandledRequest) → In (frame.Dispatch d) (option_to_list (if b then frame_of sync behind place w else None)) → (values : Values) × (w ≡ what.Take d.seq d.route d.number values)
-of-stay true sync behind place w d i = of-take sync behind place w d i
-of-stay false sync behind place w d i = elim i [ ]
+of-stay : (b : Bool) (sync : ℤ → Bool) (following : List What) (place : ℕ) (w : What) (d : HandledRequest) → In (frame.Dispatch d) (option_to_list (if b then frame_of sync following place w else None)) → (values : Values) × (w ≡ what.Take d.seq d.route d.number values)
+of-stay true sync following place w d i = of-take sync following place w d i
+of-stay false sync following place w d i = elim i [ ]
 
 own-side : (s end : Side) → same_side s end ≡ true → s ≡ end
 own-side Parent Parent h = refl
@@ -56,23 +56,23 @@ own-side Parent Child h = cc
 own-side Child Parent h = cc
 own-side Child Child h = refl
 
-of-line : (sync : ℤ → Bool) (end : Side) (place : ℕ) (l : Line) (behind : List Line) (d : HandledRequest) → In (frame.Dispatch d) (option_to_list (frame_at sync end place l behind)) → (values : Values) × (l ≡ line_of end (what.Take d.seq d.route d.number values))
-of-line sync end place l behind d i = by (same_side l.side end) refl i
+of-line : (sync : ℤ → Bool) (end : Side) (place : ℕ) (l : Line) (following : List Line) (d : HandledRequest) → In (frame.Dispatch d) (option_to_list (frame_at sync end place l following)) → (values : Values) × (l ≡ line_of end (what.Take d.seq d.route d.number values))
+of-line sync end place l following d i = by (same_side l.side end) refl i
   where
-    by : (b : Bool) → same_side l.side end ≡ b → In (frame.Dispatch d) (option_to_list (if b then frame_with sync (said_by end behind) place l.what else None)) → (values : Values) × (l ≡ line_of end (what.Take d.seq d.route d.number values))
+    by : (b : Bool) → same_side l.side end ≡ b → In (frame.Dispatch d) (option_to_list (if b then frame_with sync (said_by end following) place l.what else None)) → (values : Values) × (l ≡ line_of end (what.Take d.seq d.route d.number values))
     by true is i =
-        let r = of-stay (stays (said_by end behind)) sync (said_by end behind) place l.what d i in
+        let r = of-stay (stays (said_by end following)) sync (said_by end following) place l.what d i in
         (r.0, ap (λ (s : Side). record { side = s; what = l.what }) (own-side l.side end is) ∙ ap (line_of end) r.1)
     by false is i = elim i [ ]
 
 from-place : (sync : ℤ → Bool) (end : Side) (place : ℕ) (lines : List Line) (d : HandledRequest) → In (frame.Dispatch d) (stack_from sync end place lines) → TakePlace end d lines
 from-place sync end place [] d i = elim i [ ]
-from-place sync end place (l ∷ behind) d i = by (either-in (stack_from sync end (place + 1) behind) (option_to_list (frame_at sync end place l behind)) (frame.Dispatch d) i) (λ j. from-place sync end (place + 1) behind d j)
+from-place sync end place (l ∷ following) d i = by (either-in (stack_from sync end (place + 1) following) (option_to_list (frame_at sync end place l following)) (frame.Dispatch d) i) (λ j. from-place sync end (place + 1) following d j)
   where
-    by : In (frame.Dispatch d) (stack_from sync end (place + 1) behind) ⊎ In (frame.Dispatch d) (option_to_list (frame_at sync end place l behind)) → (In (frame.Dispatch d) (stack_from sync end (place + 1) behind) → TakePlace end d behind) → TakePlace end d (l ∷ behind)
+    by : In (frame.Dispatch d) (stack_from sync end (place + 1) following) ⊎ In (frame.Dispatch d) (option_to_list (frame_at sync end place l following)) → (In (frame.Dispatch d) (stack_from sync end (place + 1) following) → TakePlace end d following) → TakePlace end d (l ∷ following)
     by (inl j) rec = let p = rec j in record { front = l ∷ p.front; values = p.values; back = p.back; is = ap (λ (ls : List Line). l ∷ ls) p.is }
-    by (inr j) rec = let r = of-line sync end place l behind d j in record { front = []; values = r.0; back = behind; is = ap (λ (x : Line). x ∷ behind) r.1 }
+    by (inr j) rec = let r = of-line sync end place l following d j in record { front = []; values = r.0; back = following; is = ap (λ (x : Line). x ∷ following) r.1 }
 
--- where a request that is handled on top was taken
+-- the place where a request that is handled on top was taken
 pub take-place : (schema : Schema) (end : Side) (lines : List Line) (d : HandledRequest) (below : List CallFrame) → stack schema end lines ≡ frame.Dispatch d ∷ below → TakePlace end d lines
 take-place schema end lines d below is = from-place (is_sync_of schema (said_by end lines)) end 0 lines d (subst (In (frame.Dispatch d)) (sym is) here)

@@ -1,4 +1,4 @@
--- What a request that is dropped is answered.
+-- The answer to a request that is dropped.
 use Rattle.std.proofs.Common.{◌≡◌, ℕ, ℤ, Bool, true, false, ◌&&◌, ◌||◌, List, [], ◌∷◌, ◌++◌, map, Option, Some, refl, sym, ap, ◌∙◌}
 use Rattle.std.specs.Option.{option_map_or}
 use Rattle.std.proofs.lemmas.Bool.{and_right}
@@ -31,14 +31,14 @@ use Rattle.order_statements.specs.Shape.{is_open, owes_reply}
 use Rattle.order_statements.proofs.StepLines.{MadeOf, answering-other, drops_or_returns, farewell-other, made-of, of_delivery, of_own, refusal-other, renaming-other, resume-other, send-other, shut-other, silent-parts, unknown-other}
 use Rattle.ipdl_base.specs.declared.kinds.Side.{Side}
 
--- both words for an open end say the same
+-- both tests of an open end agree
 pub open-same : (s : EndState) → is_open s ≡ outputs.is_open s
 open-same state.Open = refl
 open-same state.Draining = refl
 open-same state.Closed = refl
 open-same state.Dead = refl
 
--- so do those for a request that owes a reply
+-- so do the tests of a request that needs a reply
 pub owes-same : (schema : Schema) (number : ℕ) (row : MessageRow) → message_of schema number ≡ Some row → owes_reply schema number ≡ parts.owes_reply row
 owes-same schema number row found =
     ap (λ (o : Option MessageRow). option_map_or rows.is_sync_row o false || option_map_or rows.wants_row o false) found

@@ -1,4 +1,4 @@
--- Every legal history, and every run of one end by itself, has the effects that are owed.
+-- Every legal history, and every run of one end, has the effects that are owed.
 use Rattle.std.proofs.Common.{ℕ, List}
 use Rattle.ipdl_base.specs.declared.line.Line.{Line}
 use Rattle.ipdl_base.specs.declared.schema.Schema.{Schema}
@@ -22,10 +22,10 @@ effects schema lines told kept = record {
   builds = sends-build schema lines told;
   takes = takes-build schema lines told;
   drops = drops-told schema lines told;
-  returns = λ end n d below before behind at top. record {
-    sync = returns-sync schema lines told end n d below before behind at top;
-    destroyed = returns-destroyed schema lines kept end n d below before behind at top;
-    deleted = returns-delete schema lines told end n d below before behind at top;
+  returns = λ end n d below before following at top. record {
+    sync = returns-sync schema lines told end n d below before following at top;
+    destroyed = returns-destroyed schema lines kept end n d below before following at top;
+    deleted = returns-delete schema lines told end n d below before following at top;
   };
   renames = renames-told schema lines kept;
   settles = replies-settle schema lines told;

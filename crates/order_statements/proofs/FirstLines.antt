@@ -1,4 +1,4 @@
--- The first line of a step tells which event it is of.
+-- The first line of a step shows which event it is of.
 use Rattle.std.proofs.Common.{◌≡◌, ℕ, ◌+◌, ℤ, pos, Bool, true, false, if◌then◌else◌, List, [], ◌∷◌, ◌++◌, map, Option, Some, None, sym, subst, option_and_then}
 use Rattle.ipdl_base.specs.declared.kinds.Reason.TheVariants.{ResolverDestroyed}
 use Rattle.ipdl_base.specs.declared.kinds.SendRefusal.{SendRefusal}
@@ -80,7 +80,7 @@ IsLineOf event.resume _ = ⊥
 IsLineOf event.flush (what.Flush count) = Unit {0}
 IsLineOf event.flush _ = ⊥
 
--- What is done later leaves the first line
+-- Later parts of a step leave the first line
 
 module _ (P : What → Type 0) where
   abbrev Begins : Output → Type 0

@@ -1,4 +1,5 @@
--- What holds of the requests that an end handles, or may answer by a name, as its parts change them; so each of these was taken.
+-- Properties of the requests that an end handles, or may answer by a name, as its parts change them; so each of these
+-- was taken.
 use Rattle.std.proofs.Common.{◌≡◌, ℕ, ℤ, Bool, true, false, ◌&&◌, ◌||◌, if◌then◌else◌, cond, int_eq, List, [], ◌∷◌, ◌++◌, drop, find, map, Some, None, option_map, refl, sym, ap, subst, ◌∙◌}
 use Rattle.std.specs.List.{AllByRecursion}
 use Rattle.std.proofs.lemmas.Bool.{or_left, or_right}
@@ -23,7 +24,7 @@ use Rattle.channel_model.specs.Names.{is_actor}
 use Rattle.channel_model.specs.Numbers.{is_sync_row}
 use Rattle.channel_model.specs.Outputs.{Output}
 use Rattle.channel_model.specs.Parts as parts
-use Rattle.channel_model.specs.Parts.{DeliveryPart, FirstPart, HoldsActor, LaterPart, LaterParts, OwnParts, end_behind}
+use Rattle.channel_model.specs.Parts.{DeliveryPart, FirstPart, HoldsActor, LaterPart, LaterParts, OwnParts, end_after}
 use Rattle.channel_model.specs.Phases.{Phase}
 use Rattle.channel_model.specs.Sends as send
 use Rattle.channel_model.specs.Takes as take
@@ -40,7 +41,8 @@ pub same-entries : (stack : List StackEntry) → delivery.with_frames (map (λ (
 same-entries [] = refl
 same-entries (x ∷ xs) = ap (λ (ys : List StackEntry). x ∷ ys) (same-entries xs)
 
--- This holds of the number and the message of each request that is handled, and this of the message of each that has a resolver.
+-- G is true of the number and the message of each request that is handled, and H of the message of each that has a
+-- resolver.
 module _ (G : ℤ → ℕ → Type 0) (H : ℕ → Type 0) where
   pub record EntryIs (entry : StackEntry) : Type 0 where
     pub handled_is : is_dispatch entry.frame ≡ true → G (head_of entry.frame).seq entry.number
@@ -128,9 +130,9 @@ module _ (G : ℤ → ℕ → Type 0) (H : ℕ → Type 0) where
   laters-are parts.done h = h
   laters-are (parts.then part rest) h = laters-are rest (later-is part h)
 
-  behind-is : (b : Bool) (e : End) → EndIs e → EndIs (end_behind b e)
-  behind-is true e h = record { stack = h.stack; names = h.names }
-  behind-is false e h = h
+  following-is : (b : Bool) (e : End) → EndIs e → EndIs (end_after b e)
+  following-is true e h = record { stack = h.stack; names = h.names }
+  following-is false e h = h
 
   waits-are : (b : Bool) (row : MessageRow) (m : Message) (stack : List StackEntry) → AllByRecursion EntryIs stack → AllByRecursion EntryIs (cond b (send.wait_for row m ∷ stack) stack)
   waits-are true row m stack h = (record { handled_is = λ k. cc; resolver_is = λ k. cc }, h)
@@ -143,7 +145,7 @@ module _ (G : ℤ → ℕ → Type 0) (H : ℕ → Type 0) where
   used-is (handled seq) e h = record { stack = released-is seq e.stack h.stack; names = h.names }
   used-is (kept name number) e h = record { stack = h.stack; names = all-filter NamingIs _ e.names h.names }
 
-  -- a part that an event begins with: the request that it takes, if any, has to be so too
+  -- the first part of an event: the request that it takes, if any, must have the property too
   pub first-is : {schema : Schema} {e f : End} {us : List What} {ps : List Packet} {p : Phase} → FirstPart schema e us ps f p → ((row : MessageRow) (m : Message) (vs : _) (rest : List What) → us ≡ what.Take m.seq m.route m.number vs ∷ rest → EntryIs (take.dispatch_of row m)) → EndIs e → EndIs f
   first-is (parts.refuses w is) takes h = h
   first-is (parts.renames w is) takes h = h
@@ -154,19 +156,19 @@ module _ (G : ℤ → ℕ → Type 0) (H : ℕ → Type 0) where
   first-is (parts.dies opened) takes h = record { stack = tt; names = h.names }
   first-is (parts.dies_silent closed dead) takes h = record { stack = tt; names = h.names }
   first-is (parts.takes m sync level row vs next body found stays) takes h = record { stack = (takes row m _ [] refl, h.stack); names = h.names }
-  first-is (parts.drops {e = x} m sync level row vs id told next body found missing is) takes h = behind-is told (parts.left_end x) (record { stack = h.stack; names = h.names })
+  first-is (parts.drops {e = x} m sync level row vs id told next body found missing is) takes h = following-is told (parts.left_end x) (record { stack = h.stack; names = h.names })
   first-is (parts.drops_unknown m sync level vs next body found) takes h = record { stack = h.stack; names = h.names }
   first-is (parts.takes_reply m sync level a next body settling) takes h = record { stack = h.stack; names = h.names }
   first-is (parts.settles m sync level row a next body found awaited) takes h = record { stack = h.stack; names = h.names }
   first-is (parts.shuts {e = x} last next farewell) takes h = record { stack = h.stack; names = all-filter NamingIs is_actor x.names h.names }
   first-is (parts.returns {e = x} entry row vs told lost is told_is lost_is) takes h =
       let popped : End = record x { stack = drop 1 x.stack } in
-      behind-is lost (end_behind told popped) (behind-is told popped (record { stack = drop-is x.stack h.stack; names = h.names }))
+      following-is lost (end_after told popped) (following-is told popped (record { stack = drop-is x.stack h.stack; names = h.names }))
   first-is (parts.resumes {e = x} wait row top found) takes h = record { stack = drop-is x.stack h.stack; names = h.names }
 
   delivery-is : {schema : Schema} {packet : Packet} {e f : End} {ws : List What} {ps : List Packet} {q : Phase} → DeliveryPart schema packet e ws ps f q → EndIs e → EndIs f
   delivery-is (parts.gets_request m row vs body found none) h = record { stack = h.stack; names = h.names }
-  delivery-is (parts.replaces {e = x} m row vs old sync level told body found rep is) h = behind-is told (delivery.counted row (delivery.item_of row m) x) (record { stack = h.stack; names = h.names })
+  delivery-is (parts.replaces {e = x} m row vs old sync level told body found rep is) h = following-is told (delivery.counted row (delivery.item_of row m) x) (record { stack = h.stack; names = h.names })
   delivery-is (parts.gets_answer {e = x} m row a body found sync) h = record { stack = answered-is a x.stack h.stack; names = h.names }
   delivery-is (parts.gets_reply m row a body found sync) h = record { stack = h.stack; names = h.names }
   delivery-is (parts.drains {e = x} packet farewell) h = record { stack = failed-is x.stack h.stack; names = h.names }

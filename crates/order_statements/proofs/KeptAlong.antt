@@ -1,4 +1,5 @@
--- What each step of an end keeps of the end and of what it has said holds in every history, and in every run of one end.
+-- What each step of an end keeps of the end and of what it has printed is true in every history, and in every run of
+-- one end.
 use Rattle.std.proofs.Common.{◌≡◌, ℕ, List, [], ◌∷◌, ◌++◌, map, Option, Some, None, refl, sym, ap, subst, append_assoc, ◌∙◌}
 use Rattle.std.proofs.lemmas.List.{append-nil}
 use Rattle.std.proofs.lemmas.List.Elements.{filter_map-append}
@@ -16,12 +17,13 @@ use Rattle.channel_model.specs.Runs.{happens, history_of, output_of, passed_by, 
 use Rattle.channel_model.specs.Steps.{step}
 use Rattle.channel_model.proofs.Events.{events_have_their_lines}
 use Rattle.channel_laws.specs.Laws.{world_of}
-use Rattle.law_statements.specs.Said.{line_of, other_end, said_by, said_in}
+use Rattle.ipdl_base.specs.Sides.{other}
+use Rattle.law_statements.specs.Said.{line_of, said_by, said_in}
 use Rattle.alone_laws.specs.AloneRuns.{RunsAlone, acts as does, begins, gets}
 use Rattle.alone_laws.proofs.AloneLines.{said-more}
 use Rattle.order_statements.proofs.Places.{of-side, whats}
 
--- Each step of an end keeps this of it and of what it has said by then.
+-- Each step of an end keeps this of it and of what it has printed by then.
 pub record EveryStepKeeps (schema : Schema) (K : End → List What → Type 0) : Type 0 where
   pub begins : (top : ℕ) (side : Side) → K (opening_end top side) []
   pub goes_on : (e : End) (link : List Packet) (ev : Event) (output : Output) (ws said : List What) → step schema e link ev ≡ Some output → output.lines ≡ map (line_of e.side) ws → K e said → K output.end (said ++ ws)
@@ -36,7 +38,7 @@ lines-of side (l ∷ ls) h = ap (λ (s : Side). record { side = s; what = l.what
 pub step-lines : (schema : Schema) (e : End) (link : List Packet) (ev : Event) (output : Output) → step schema e link ev ≡ Some output → output.lines ≡ map (line_of e.side) (whats output.lines)
 step-lines schema e link ev output is = lines-of e.side output.lines (events_have_their_lines schema e link ev output is).lines
 
-pub none-said : (s : Side) (ws : List What) → said_by (other_end s) (map (line_of s) ws) ≡ []
+pub none-said : (s : Side) (ws : List What) → said_by (other s) (map (line_of s) ws) ≡ []
 none-said s [] = refl
 none-said Parent (w ∷ ws) = none-said Parent ws
 none-said Child (w ∷ ws) = none-said Child ws
@@ -47,21 +49,21 @@ all-said s ws = said-more s [] ws
 module _ (schema : Schema) (K : End → List What → Type 0) (keeps : EveryStepKeeps schema K) where
   -- Histories
 
-  -- both ends of a world keep it, each with what it has said
+  -- both ends of a world keep it, each with what it has printed
   record Both (w : World) (parents childs : List What) : Type 0 where
     parent_side : w.parent.side ≡ Parent
     child_side : w.child.side ≡ Child
     parent : K w.parent parents
     child : K w.child childs
 
-  record Behind (w : World) (lines : List Line) (parents childs : List What) : Type 0 where
+  record Following (w : World) (lines : List Line) (parents childs : List What) : Type 0 where
     both : Both w (parents ++ said_by Parent lines) (childs ++ said_by Child lines)
 
-  passed-keeps : (move : Move) (w : World) (found : Option Output) (parents childs : List What) → output_of schema w move ≡ found → Both w parents childs → Behind (passed_by found move w).world (passed_by found move w).lines parents childs
+  passed-keeps : (move : Move) (w : World) (found : Option Output) (parents childs : List What) → output_of schema w move ≡ found → Both w parents childs → Following (passed_by found move w).world (passed_by found move w).lines parents childs
   passed-keeps move w None parents childs is b = record { both = subst (λ (xs : List What). Both w xs (childs ++ [])) (sym (append-nil parents)) (subst (Both w parents) (sym (append-nil childs)) b) }
   passed-keeps move w (Some output) parents childs is b = by move.side refl is
     where
-      by : (s : Side) → move.side ≡ s → step schema (end_of s w) (link_to s w) move.event ≡ Some output → Behind (passed_by (Some output) (record { side = s; event = move.event }) w).world output.lines parents childs
+      by : (s : Side) → move.side ≡ s → step schema (end_of s w) (link_to s w) move.event ≡ Some output → Following (passed_by (Some output) (record { side = s; event = move.event }) w).world output.lines parents childs
       by Parent at made =
           let ws : List What = whats output.lines in
           let lines : output.lines ≡ map (line_of Parent) ws = step-lines schema w.parent w.to_parent move.event output made ∙ ap (λ (s : Side). map (line_of s) ws) b.parent_side in
@@ -85,13 +87,13 @@ module _ (schema : Schema) (K : End → List What → Type 0) (keeps : EveryStep
             };
           }
 
-  moves-keep : (moves : List Move) (w : World) (parents childs : List What) → Both w parents childs → Behind (run schema moves w).world (run schema moves w).lines parents childs
+  moves-keep : (moves : List Move) (w : World) (parents childs : List What) → Both w parents childs → Following (run schema moves w).world (run schema moves w).lines parents childs
   moves-keep [] w parents childs b = record { both = subst (λ (xs : List What). Both w xs (childs ++ [])) (sym (append-nil parents)) (subst (Both w parents) (sym (append-nil childs)) b) }
   moves-keep (move ∷ moves) w parents childs b =
       let one : List Line = (happens schema w move).lines in
       let rest : List Line = (run schema moves (happens schema w move).world).lines in
-      let first : Behind (happens schema w move).world one parents childs = passed-keeps move w (output_of schema w move) parents childs refl b in
-      let last : Behind (run schema moves (happens schema w move).world).world rest (parents ++ said_by Parent one) (childs ++ said_by Child one) = moves-keep moves (happens schema w move).world (parents ++ said_by Parent one) (childs ++ said_by Child one) first.both in
+      let first : Following (happens schema w move).world one parents childs = passed-keeps move w (output_of schema w move) parents childs refl b in
+      let last : Following (run schema moves (happens schema w move).world).world rest (parents ++ said_by Parent one) (childs ++ said_by Child one) = moves-keep moves (happens schema w move).world (parents ++ said_by Parent one) (childs ++ said_by Child one) first.both in
       let grown : (s : Side) (before : List What) → (before ++ said_by s one) ++ said_by s rest ≡ before ++ said_by s (one ++ rest) =
       λ s before. append_assoc before (said_by s one) (said_by s rest) ∙ ap (λ (xs : List What). before ++ xs) (sym (filter_map-append (said_in s) one rest)) in
       record { both = subst (λ (xs : List What). Both (run schema moves (happens schema w move).world).world xs (childs ++ said_by Child (one ++ rest))) (grown Parent parents) (subst (Both (run schema moves (happens schema w move).world).world ((parents ++ said_by Parent one) ++ said_by Parent rest)) (grown Child childs) last.both) }

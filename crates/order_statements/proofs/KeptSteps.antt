@@ -1,4 +1,4 @@
--- The steps of histories and of runs of one end, with what every step keeps of the end and of what it has said.
+-- The steps of histories and of runs of one end, with what every step keeps of the end and of what it has printed.
 use Rattle.std.proofs.Common.{◌≡◌, ℕ, false, List, ◌∷◌, ◌++◌, sym, subst}
 use Rattle.ipdl_base.specs.declared.kinds.Side.{Side}
 use Rattle.ipdl_base.specs.declared.line.Line.{Line}
@@ -19,7 +19,7 @@ use Rattle.order_statements.proofs.Places.{EventIn, MoveAt, StepAt, event-alone,
 use Rattle.order_statements.proofs.Tells.{EndTells, alone-tells, event-by, history-tells}
 use Rattle.std.specs.Prelude.{Some}
 
--- A step of an end, what its lines tell of it before, and what is kept of it and of what it has said by then.
+-- A step of an end, what its lines show of it before, and what is kept of it and of what it has printed by then.
 pub record KeptStep (schema : Schema) (K : End → List What → Type 0) (end : Side) (start : List Line) (output : Output) : Type 0 where
   pub e : End
   pub link : List Packet
@@ -28,9 +28,9 @@ pub record KeptStep (schema : Schema) (K : End → List What → Type 0) (end : 
   pub tells : EndTells schema e end start
   pub kept : K e (said_by end start)
 
--- lines of which each event was printed by such a step
+-- lines each event of which was printed by such a step
 abbrev pub EventsAreKept : Schema → (End → List What → Type 0) → List Line → Type 0
-EventsAreKept schema K lines = (end : Side) (w : What) (before behind : List Line) → is_effect w ≡ false → lines ≡ before ++ line_of end w ∷ behind → EventIn (KeptStep schema K end) end w before behind
+EventsAreKept schema K lines = (end : Side) (w : What) (before following : List Line) → is_effect w ≡ false → lines ≡ before ++ line_of end w ∷ following → EventIn (KeptStep schema K end) end w before following
 
 module _ (schema : Schema) (sound : IsSound schema) (K : End → List What → Type 0) (keeps : EveryStepKeeps schema K) where
   move-kept : (top : ℕ) (moves : List Move) (end : Side) (start : List Line) (output : Output) → MoveAt schema top moves end start output → KeptStep schema K end start output
@@ -57,9 +57,9 @@ module _ (schema : Schema) (sound : IsSound schema) (K : End → List What → T
   }
 
   pub history-kept : (top : ℕ) (moves : List Move) → EventsAreKept schema K (history_of schema top moves)
-  history-kept top moves end w before behind is at = event-by (move-kept top moves end) (event-at schema sound top moves end w before behind is at)
+  history-kept top moves end w before following is at = event-by (move-kept top moves end) (event-at schema sound top moves end w before following is at)
 
   pub run-kept : (top : ℕ) (side : Side) (e : End) (lines : List Line) (packets : List Packet) → RunsAlone schema top side e lines packets → EventsAreKept schema K lines
-  run-kept top side e lines packets run end w before behind is at =
-      let here = event-alone schema sound top side e lines packets run end w before behind is at in
+  run-kept top side e lines packets run end w before following is at =
+      let here = event-alone schema sound top side e lines packets run end w before following is at in
       event-by (λ start output s. subst (λ (x : Side). KeptStep schema K x start output) (sym here.0) (step-kept top side start output s)) here.1

@@ -1,4 +1,5 @@
--- While an end takes what has arrived, each promise of it that is settled has its reply taken, or was rejected since an actor fell.
+-- While an end takes what has arrived, each of its promises that is settled had its reply taken, or was rejected
+-- because an actor fell.
 use Rattle.std.proofs.Common.{◌≡◌, ◌⊎◌, inl, inr, ℤ, Bool, true, false, ◌||◌, if◌then◌else◌, int_eq, List, [], ◌∷◌, ◌++◌, Contains, drop, filter, filter_map, Option, Some, None, refl, sym, ap, ◌∙◌, arith}
 use Rattle.std.specs.List.{AllByRecursion}
 use Rattle.std.proofs.lemmas.Bool.{or_cases, or_left, or_right}
@@ -33,7 +34,7 @@ use Rattle.channel_model.specs.Falls as fall
 use Rattle.channel_model.specs.Numbers.{is_sync_row}
 use Rattle.channel_model.specs.Outputs.{AnsweredRequest, Output, is_open, request_answered, resolver_answered}
 use Rattle.channel_model.specs.Parts as parts
-use Rattle.channel_model.specs.Parts.{DeliveryPart, FirstPart, IsRefusal, IsRenaming, LaterPart, LaterParts, OwnParts, end_behind, fall_lines, reply_lines}
+use Rattle.channel_model.specs.Parts.{DeliveryPart, FirstPart, IsRefusal, IsRenaming, LaterPart, LaterParts, OwnParts, end_after, fall_lines, reply_lines}
 use Rattle.channel_model.specs.Phases.{Phase, closing, kind_cause}
 use Rattle.channel_model.specs.Returns as return
 use Rattle.channel_model.specs.Sends as send
@@ -51,7 +52,7 @@ use Rattle.order_statements.proofs.StepLines.{MadeOf, made-of, of_delivery, of_o
 pub has-append : (f : What → Option ℤ) (xs ys : List What) (n : ℤ) → has (filter_map f (xs ++ ys)) n ≡ has (filter_map f xs) n || has (filter_map f ys) n
 has-append f xs ys n = ap (λ (ns : List ℤ). has ns n) (filter_map-append f xs ys) ∙ list_any-append (λ m. int_eq m n) (filter_map f xs) (filter_map f ys)
 
--- a promise whose reply was taken, or that was rejected since an actor fell
+-- a promise whose reply was taken, or that was rejected because an actor fell
 abbrev pub IsDone : List What → ℤ → Type 0
 IsDone said n = Contains said (what.Rejected n reason.ActorDestroyed) ⊎ (has (replies said) n ≡ true)
 
@@ -59,9 +60,9 @@ done-before : (said more : List What) (n : ℤ) → IsDone said n → IsDone (sa
 done-before said more n (inl c) = inl (Contains-append_left said more (what.Rejected n reason.ActorDestroyed) c)
 done-before said more n (inr h) = inr (has-append number_of_reply said more n ∙ or_left (has (replies said) n) (has (replies more) n) h)
 
-done-behind : (said more : List What) (n : ℤ) → IsDone more n → IsDone (said ++ more) n
-done-behind said more n (inl c) = inl (Contains-append_right said more (what.Rejected n reason.ActorDestroyed) c)
-done-behind said more n (inr h) = inr (has-append number_of_reply said more n ∙ or_right (has (replies said) n) (has (replies more) n) h)
+done-following : (said more : List What) (n : ℤ) → IsDone more n → IsDone (said ++ more) n
+done-following said more n (inl c) = inl (Contains-append_right said more (what.Rejected n reason.ActorDestroyed) c)
+done-following said more n (inr h) = inr (has-append number_of_reply said more n ∙ or_right (has (replies said) n) (has (replies more) n) h)
 
 -- each promise that these lines settle
 abbrev pub AllDone : List What → Type 0
@@ -72,9 +73,9 @@ done-append xs ys a b n h = by (or_cases (has (settled xs) n) (has (settled ys) 
   where
     by : (has (settled xs) n ≡ true) ⊎ (has (settled ys) n ≡ true) → IsDone (xs ++ ys) n
     by (inl k) = done-before xs ys n (a n k)
-    by (inr k) = done-behind xs ys n (b n k)
+    by (inr k) = done-following xs ys n (b n k)
 
--- a line that settles nothing but by a fall
+-- a line that settles nothing, except by a fall
 abbrev IsDoneLine : What → Type 0
 IsDoneLine (what.Resolved n values) = ⊥
 IsDoneLine (what.Rejected n why) = why ≡ reason.ActorDestroyed
@@ -185,15 +186,15 @@ kind-calm Normal route why e = cc
 kind-calm (Constructor protocol) route why e = cc
 kind-calm Delete route why e = cc
 
--- What a part that an event begins with says of its end before it, of what is due, and of its lines.
+-- What the first part of an event shows of its end before it, of what is due, and of its lines.
 record Goes (e : End) (us : List What) (p : Phase) : Type 0 where
   takes : takes_in_state e.state ≡ true
   calm : IsCalm p
   lines : AllDone us
 
-behind-takes : (b : Bool) (e : End) → takes_in_state (end_behind b e).state ≡ true → takes_in_state e.state ≡ true
-behind-takes true e h = h
-behind-takes false e h = h
+following-takes : (b : Bool) (e : End) → takes_in_state (end_after b e).state ≡ true → takes_in_state e.state ≡ true
+following-takes true e h = h
+following-takes false e h = h
 
 first-goes : {schema : Schema} {e f : End} {us : List What} {ps : List Packet} {p : Phase} → FirstPart schema e us ps f p → takes_in_state f.state ≡ true → Goes e us p
 first-goes {schema} (parts.refuses w is) h = record { takes = h; calm = λ why k. cc; lines = done-line w (refusal-done schema w is) }
@@ -211,7 +212,7 @@ first-goes (parts.dies_silent closed dead) h = cc
 first-goes (parts.takes m sync level row vs next body found stays) h = record { takes = h; calm = λ why k. cc; lines = done-line _ tt }
 first-goes (parts.drops {e = x} m sync level row vs id told next body found gone is) h =
     let answers : AllByRecursion IsDoneLine (reply_lines told (request_answered m) (answer.Fault reason.ActorDestroyed)) = reply-done told (request_answered m) (answer.Fault reason.ActorDestroyed) in
-    record { takes = behind-takes told (parts.left_end x) h; calm = λ why k. cc; lines = done-lines (what.Drop m.seq m.route m.number id ∷ reply_lines told (request_answered m) (answer.Fault reason.ActorDestroyed)) (tt, answers) }
+    record { takes = following-takes told (parts.left_end x) h; calm = λ why k. cc; lines = done-lines (what.Drop m.seq m.route m.number id ∷ reply_lines told (request_answered m) (answer.Fault reason.ActorDestroyed)) (tt, answers) }
 first-goes (parts.drops_unknown m sync level vs next body found) h = record { takes = h; calm = λ why k. cc; lines = done-line _ tt }
 first-goes (parts.takes_reply m sync level a next body settling) h = record { takes = h; calm = λ why k. cc; lines = done-line _ tt }
 first-goes (parts.settles m sync level row a next body found awaited) h = record { takes = h; calm = λ why k. cc; lines = settle-done m.seq _ }
@@ -222,7 +223,7 @@ first-goes {schema} (parts.returns {e = x} entry row vs told lost is told_is los
     let loses : List What = reply_lines lost (resolver_answered (answering.resolver_in entry)) (answer.Fault reason.ResolverDestroyed) in
     let both : AllByRecursion IsDoneLine (answers ++ loses) = all-append IsDoneLine answers loses (reply-done told (return.dispatch_answered entry) (return.return_answer schema x row entry vs)) (reply-done lost (resolver_answered (answering.resolver_in entry)) (answer.Fault reason.ResolverDestroyed)) in
     record {
-      takes = behind-takes told popped (behind-takes lost (end_behind told popped) h);
+      takes = following-takes told popped (following-takes lost (end_after told popped) h);
       calm = kind-calm row.kind entry.route;
       lines = done-lines (what.Return (head_of entry.frame).seq ∷ (answers ++ loses)) (tt, both);
     }

@@ -1,4 +1,4 @@
--- An actor that lived and does not live any more never lives again.
+-- An actor that lived and no longer lives never lives again.
 use Rattle.std.proofs.Common.{◌≡◌, ℕ, ℤ, Bool, true, false, not, ◌&&◌, ◌||◌, List, [], ◌∷◌, ◌++◌, refl, sym, ap, subst, ◌∙◌, append_assoc}
 use Rattle.std.proofs.lemmas.Bool.{and_parts, false≢true}
 use Rattle.std.proofs.lemmas.List.Folds.{list_any-append}
@@ -29,7 +29,7 @@ run-more schema (x ∷ xs) ys w =
 said-more : (end : Side) (xs ys : List Line) → said_by end (xs ++ ys) ≡ said_by end xs ++ said_by end ys
 said-more end xs ys = filter_map-append (said_in end) xs ys
 
--- what is said after more moves
+-- what is printed after more moves
 told-more : (schema : Schema) (top : ℕ) (front more : List Move) (side : Side) → (later : List What) × (said_by side (history_of schema top (front ++ more)) ≡ said_by side (history_of schema top front) ++ later)
 told-more schema top front more side =
     let lines : List Line = (run schema more (run schema front (opening top)).world).lines in
@@ -44,7 +44,7 @@ or-true false b h = absurd (false≢true h)
 fallen-stays : (own later : List What) (id : ℤ) → has (fallen own) id ≡ true → has (fallen (own ++ later)) id ≡ true
 fallen-stays own later id h = ap (λ (ns : List ℤ). has ns id) (filter_map-append id_fallen own later) ∙ list_any-append _ (fallen own) (fallen later) ∙ or-true (has (fallen own) id) _ h
 
--- an actor that was built and does not live has fallen, and stays so
+-- an actor that was built and does not live has fallen, and stays fallen
 falls-for-good : (own later : List What) (id : ℤ) → was_built (built own) id ≡ true → lives own id ≡ false → lives (own ++ later) id ≡ false
 falls-for-good own later id there dead = by (has (fallen own) id) refl
   where

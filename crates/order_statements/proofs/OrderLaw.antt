@@ -12,7 +12,7 @@ use Rattle.nesting_core.specs.declared.frame.StackFrame.{StackFrame}
 use Rattle.nesting_core.specs.Answers.{awaited}
 use Rattle.nesting_core.specs.Frames.{head_of, is_unanswered}
 use Rattle.pending_queue.specs.declared.item.Item.{Item}
-use Rattle.pending_queue.specs.Holding.{arrival_of, defers_item}
+use Rattle.pending_queue.specs.DeferralContext.{arrival_of, defers_item}
 use Rattle.history_reading.specs.declared.parts.PacketKind.{PacketKind}
 use Rattle.history_reading.specs.declared.parts.PacketKind.TheVariants as seen
 use Rattle.history_reading.specs.EndReading.{EndReading, has_unanswered}
@@ -20,12 +20,12 @@ use Rattle.history_reading.specs.Reading.{end_reading_of, read}
 use Rattle.channel_model.specs.Ends.{End, Packet, end_of, link_to}
 use Rattle.channel_model.specs.Events.{Move}
 use Rattle.channel_model.specs.Events as event
-use Rattle.channel_model.specs.Numbers.{other}
+use Rattle.ipdl_base.specs.Sides.{other}
 use Rattle.channel_model.specs.Outputs.{Output}
 use Rattle.channel_model.specs.Runs.{history_of}
 use Rattle.channel_model.specs.Sends.{frames_of}
 use Rattle.channel_model.specs.Steps.{step}
-use Rattle.channel_model.specs.Takes.{holding_of}
+use Rattle.channel_model.specs.Takes.{deferral_context_of}
 use Rattle.channel_model.specs.States.{IsAnswered}
 use Rattle.channel_model.proofs.Known.{all-before, all-both}
 use Rattle.channel_laws.specs.Arrivals.{item_kind}
@@ -40,7 +40,7 @@ use Rattle.order_laws.proofs.Farewells.{farewells_are_taken_last}
 use Rattle.order_laws.proofs.Takes.{free_items_are_taken}
 use Rattle.law_statements.specs.Arrived.{Passing, passings}
 use Rattle.law_statements.specs.Packets.{sent}
-use Rattle.law_statements.specs.Said.{line_of, other_end, said_by}
+use Rattle.law_statements.specs.Said.{line_of, said_by}
 use Rattle.law_statements.specs.Stack.{stack}
 use Rattle.law_statements.specs.Waits.{defers_kind}
 use Rattle.law_statements.proofs.Fields.{delivered-read, sent-read}
@@ -63,7 +63,7 @@ in-one : {A : Type 0} (x y : A) → In x (y ∷ []) → x ≡ y
 in-one x y here = refl
 in-one x y (there i) = absurd (no-item x i)
 
--- what is shown among some items that have a property is shown by one that has it
+-- a packet that some items with a property show is shown by an item with the property
 record ShownBy (P : Item → Type 0) (packet : PacketKind) : Type 0 where
   one : Item
   shows : item_kind one ≡ packet
@@ -78,7 +78,7 @@ one-at : {A : Type 0} (P : A → Type 0) (front : List A) (x : A) (back : List A
 one-at P [] x back h = h.0
 one-at P (y ∷ front) x back h = one-at P front x back h.1
 
--- one item alone is the last
+-- a list of one item has it as its last
 alone-front : (front : List Item) (x : Item) (back : List Item) (last : Item) → front ++ x ∷ back ≡ last ∷ [] → (front ≡ []) × (x ≡ last)
 alone-front [] x back last e = let same : x ≡ last = cc in (refl, same)
 alone-front (y ∷ []) x back last e = cc
@@ -108,7 +108,7 @@ module _ (schema : Schema) (sound : IsSound schema) (top : ℕ) (moves : List Mo
   own = end_reading_of side (read schema before)
 
   abbrev others : EndReading
-  others = end_reading_of (other_end side) (read schema before)
+  others = end_reading_of (other side) (read schema before)
 
   abbrev to_me : List Packet
   to_me = link_to side (world_of schema top moves)
@@ -134,7 +134,7 @@ module _ (schema : Schema) (sound : IsSound schema) (top : ℕ) (moves : List Mo
   abbrev Here : Item → Type 0
   Here x = Waits schema sound top side mine theirs own others to_me to_them k x
 
-  -- what waits by the passings is what has arrived
+  -- what waits, by the passings, is what has arrived
   once : ArriveOnce come
   once =
       once-arrived schema (said_by side before)
@@ -152,7 +152,7 @@ module _ (schema : Schema) (sound : IsSound schema) (top : ℕ) (moves : List Mo
   stack-is : own.stack ≡ stack schema side before
   stack-is = stack-read schema before (histories_are_readable schema sound top moves) side before [] (sym (append-nil before))
 
-  deferred-is : (x : Item) → Here x → defers_kind schema side before (item_kind x) ≡ defers_item (holding_of mine) x
+  deferred-is : (x : Item) → Here x → defers_kind schema side before (item_kind x) ≡ defers_item (deferral_context_of mine) x
   deferred-is x h = sym (kind-read schema side before stack-is (item_kind x)) ∙ deferred-alike schema sound top side mine theirs own others to_me to_them k x h
 
   all-here : AllByRecursion Here (t.older ++ t.taken ∷ t.younger)
@@ -161,18 +161,18 @@ module _ (schema : Schema) (sound : IsSound schema) (top : ℕ) (moves : List Mo
   taken-here : Here t.taken
   taken-here = one-at Here t.older t.taken t.younger all-here
 
-  -- an end that shuts takes what is last
+  -- an end that shuts takes the last item
   takes-last : IsTrue (is_shut w) → TakesLast mine
   takes-last shut = farewells_are_taken_last schema sound top moves side output made (subst (FirstLine IsShut) (sym told) (shut-is w shut))
 
   -- an older item that the end defers
   abbrev Older : Item → Type 0
-  Older x = Here x × (defers_item (holding_of mine) x ≡ true)
+  Older x = Here x × (defers_item (deferral_context_of mine) x ≡ true)
 
   overtaken : (x : Item) → Older x → is_shut w ≡ false → IsPassedOver schema side before packet (item_kind x)
   overtaken x h stays =
-      let said : List What = said_by (other_end side) before in
-      let same : others.sent ≡ sent schema said = sent-read schema (other_end side) before in
+      let said : List What = said_by (other side) before in
+      let same : others.sent ≡ sent schema said = sent-read schema (other side) before in
       record {
         deferred = deferred-is x h.0 ∙ h.1;
         overtaken = record {
@@ -193,7 +193,7 @@ module _ (schema : Schema) (sound : IsSound schema) (top : ℕ) (moves : List Mo
           let none : t.older ≡ [] = (alone-front t.older t.taken t.younger last.last (sym t.arrived ∙ last.alone)).0 in
           absurd (no-item older (subst (λ (xs : List Item). In older (map item_kind xs)) none i))
       by false stays =
-          let s : ShownBy Older older = shown-by Older t.older older (all-both Here (λ x. defers_item (holding_of mine) x ≡ true) Older t.older (λ x h d. (h, d)) (all-before Here t.older (t.taken ∷ t.younger) all-here) t.deferred) i in
+          let s : ShownBy Older older = shown-by Older t.older older (all-both Here (λ x. defers_item (deferral_context_of mine) x ≡ true) Older t.older (λ x h d. (h, d)) (all-before Here t.older (t.taken ∷ t.younger) all-here) t.deferred) i in
           subst (IsPassedOver schema side before packet) s.shows (overtaken s.one s.has stays)
 
   takes-free : TakesFirstFree schema side before packet
@@ -224,10 +224,10 @@ module _ (schema : Schema) (sound : IsSound schema) (top : ℕ) (moves : List Mo
 
 pub histories_keep_order : HistoriesKeepOrder
 histories_keep_order schema sound top moves = record {
-  takes = λ end w packet before behind e is.
-      let t : TakenAfter schema top end w before = taken-after schema sound top moves end w packet before behind e is in
+  takes = λ end w packet before following e is.
+      let t : TakenAfter schema top end w before = taken-after schema sound top moves end w packet before following e is in
       subst (λ (ls : List Line). TakesFirstFree schema end ls packet) (sym t.before_is) (takes-free schema sound top t.moves end t.output t.made w t.effects t.lines packet is);
-  farewells = λ end w packet before behind e shut is.
-      let t : TakenAfter schema top end w before = taken-after schema sound top moves end w packet before behind e is in
+  farewells = λ end w packet before following e shut is.
+      let t : TakenAfter schema top end w before = taken-after schema sound top moves end w packet before following e is in
       subst (λ (ls : List Line). WaitsAlone schema end ls packet) (sym t.before_is) (waits-alone schema sound top t.moves end t.output t.made w t.effects t.lines packet is shut);
 }

@@ -1,4 +1,4 @@
--- Who overtakes whom, by what an end defers.
+-- Which packets overtake which, by what an end defers.
 use Rattle.std.proofs.Common.{◌≡◌, ℤ, Bool, true, false, not, int_eq, Option, Some, None, sym, ap, ◌∙◌}
 use Rattle.ipdl_base.specs.declared.kinds.Level.{Level}
 use Rattle.ipdl_base.specs.declared.kinds.Level.TheVariants.{Not, InsideSync, InsideCpow}
@@ -7,20 +7,20 @@ use Rattle.ipdl_base.specs.declared.kinds.Side.TheVariants.{Parent, Child}
 use Rattle.ipdl_base.specs.Deferral.{Arrival, request, reply, goodbye, mark, defers_arrival}
 use Rattle.order_statements.specs.Order.{IsAsync, MayOvertake, of_request, of_reply, cpow_over_async, cpow_over_sync, sync_over_async, sync_over_plain, sync_over_another}
 
--- what a side awaits: the parent nothing but calls of level inside_sync
+-- what a side awaits: at the parent only calls of level inside_sync
 abbrev pub MayAwait : Side → Option Level → Type 0
 MayAwait Parent None = Unit {0}
 MayAwait Parent (Some w) = w ≡ InsideSync
 MayAwait Child level = Unit {0}
 
--- what requests the parent sends: no sync ones that are not nested, and none of level inside_cpow
+-- the requests that the parent sends: no sync ones that are not nested, and none of level inside_cpow
 abbrev pub IsFromParent : Bool → Level → Type 0
 IsFromParent sync InsideSync = Unit {0}
 IsFromParent false Not = Unit {0}
 IsFromParent true Not = ⊥
 IsFromParent sync InsideCpow = ⊥
 
--- what waits at a side: at the child the requests of the parent, and nowhere a reply to a call
+-- what waits at a side: at the child the requests of the parent, and at no side a reply to a call
 abbrev pub MayArrive : Side → Arrival → Type 0
 MayArrive Parent (request sync level transaction) = Unit {0}
 MayArrive Child (request sync level transaction) = IsFromParent sync level

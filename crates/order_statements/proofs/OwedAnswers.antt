@@ -1,4 +1,4 @@
--- The answers that are effects of events: those of drops and returns, and of names that hold something else.
+-- The answers that are effects of events: those of drops and returns, and of names that get a new content.
 use Rattle.std.proofs.Common.{◌≡◌, inl, inr, ℕ, ℤ, pos, Bool, true, false, not, ◌&&◌, if◌then◌else◌, IsTrue, List, [], ◌∷◌, ◌++◌, Contains, map, Option, Some, None, refl, sym, ap, subst, ◌∙◌}
 use Rattle.std.specs.List.{AllByRecursion}
 use Rattle.std.specs.Option.{option_map_or}
@@ -56,7 +56,7 @@ use Rattle.order_statements.proofs.Tells.{EndTells, EventsAreTold, TellingStep}
 
 -- Returns
 
--- the dispatch on top of a stack, of which all frames have a property
+-- the dispatch on top of a stack whose frames all have a property
 pub top-entry : (P : StackEntry → Type 0) (stack : List StackEntry) (entry : StackEntry) → return.dispatch_on_top stack ≡ Some entry → AllByRecursion P stack → P entry × (is_dispatch entry.frame ≡ true)
 top-entry P [] entry e h = cc
 top-entry P (x ∷ xs) entry e h = by x.frame refl e
@@ -71,7 +71,7 @@ spent-not : {A : Type 0} (said : List What) (n : ℤ) → IsSpent said n → has
 spent-not said n (inl h) a k = let z : true ≡ false = sym h ∙ a in cc
 spent-not said n (inr h) a k = let z : true ≡ false = sym h ∙ k in cc
 
--- what it says that a resolver is there
+-- what follows if a resolver is there
 parts-of : (opened wants used stays : Bool) → opened && (wants && (if used then false else (if stays then false else true))) ≡ true → (opened ≡ true) × (wants ≡ true) × (used ≡ false) × (stays ≡ false)
 parts-of true true false false h = (refl, refl, refl, refl)
 parts-of true true false true h = cc
@@ -80,7 +80,7 @@ parts-of true false used stays h = cc
 parts-of false wants used stays h = cc
 
 module _ (schema : Schema) (e : End) (end : Side) (before : List Line) (tells : EndTells schema e end before) (d : HandledRequest) (below : List CallFrame) (on_top : stack schema end before ≡ frame.Dispatch d ∷ below)
-    (n : ℤ) (effects : List What) (is : Returned schema e n effects) (behind : List Line) (has_them : HasEffects end effects behind) where
+    (n : ℤ) (effects : List What) (is : Returned schema e n effects) (following : List Line) (has_them : HasEffects end effects following) where
   request : request_handled is.entry ≡ d
   request = dispatch-read (stack schema end before) e.stack d below is.entry on_top tells.frames is.on_top
 
@@ -91,7 +91,7 @@ module _ (schema : Schema) (e : End) (end : Side) (before : List Line) (tells : 
   opened-same = ap is_open tells.state ∙ open-same e.state
 
   -- the answer to a sync request
-  sync-answered : IsTrue (is_open_by (said_by end before) && is_sync_number schema d.number) → (w : What) × (more : List What) × IsReturned d.seq w × HasEffects end (w ∷ more) behind
+  sync-answered : IsTrue (is_open_by (said_by end before) && is_sync_number schema d.number) → (w : What) × (more : List What) × IsReturned d.seq w × HasEffects end (w ∷ more) following
   sync-answered h =
       let given : Answer = return.return_answer schema e is.row is.entry is.values in
       let loses : List What = reply_lines (outputs.is_open e.state && is.entry.resolves) (resolver_answered (answering.resolver_in is.entry)) (answer.Fault reason.ResolverDestroyed) ++ is.later in
@@ -100,10 +100,10 @@ module _ (schema : Schema) (e : End) (end : Side) (before : List Line) (tells : 
       let seq : (head_of is.entry.frame).seq ≡ d.seq = ap (λ (r : HandledRequest). r.seq) request in
       let are : effects ≡ outputs.answer_line d.seq given ∷ loses =
       is.are ∙ (ap (λ (b : Bool). reply_lines b (return.dispatch_answered is.entry) given ++ loses) told ∙ ap (λ (k : ℤ). outputs.answer_line k given ∷ loses) seq) in
-      (outputs.answer_line d.seq given, loses, answer-returned schema e is.row is.entry d.seq is.values, subst (λ (ws : List What). HasEffects end ws behind) are has_them)
+      (outputs.answer_line d.seq given, loses, answer-returned schema e is.row is.entry d.seq is.values, subst (λ (ws : List What). HasEffects end ws following) are has_them)
 
-  -- a resolver that is left over
-  destroyed-answered : AllHaveOrSpent schema (said_by end before) e.stack → IsTrue (has_resolver schema (said_by end before) d) → (more : List What) × HasEffects end (what.AnswerFault d.seq reason.ResolverDestroyed ∷ more) behind
+  -- a resolver that is still there
+  destroyed-answered : AllHaveOrSpent schema (said_by end before) e.stack → IsTrue (has_resolver schema (said_by end before) d) → (more : List What) × HasEffects end (what.AnswerFault d.seq reason.ResolverDestroyed ∷ more) following
   destroyed-answered stands h =
       let given : Answer = return.return_answer schema e is.row is.entry is.values in
       let p = parts-of (is_open_by (said_by end before)) (wants_number schema d.number) (has (answered (said_by end before)) d.seq) (has (kept (said_by end before)) d.seq) h in
@@ -120,7 +120,7 @@ module _ (schema : Schema) (e : End) (end : Side) (before : List Line) (tells : 
       ∙ (ap (λ (b : Bool). reply_lines b (return.dispatch_answered is.entry) given ++ (reply_lines (outputs.is_open e.state && is.entry.resolves) (resolver_answered (answering.resolver_in is.entry)) (answer.Fault reason.ResolverDestroyed) ++ is.later)) told
       ∙ (ap (λ (b : Bool). reply_lines b (resolver_answered (answering.resolver_in is.entry)) (answer.Fault reason.ResolverDestroyed) ++ is.later) lost
       ∙ ap (λ (k : ℤ). what.AnswerFault k reason.ResolverDestroyed ∷ is.later) seq)) in
-      (is.later, subst (λ (ws : List What). HasEffects end ws behind) are has_them)
+      (is.later, subst (λ (ws : List What). HasEffects end ws following) are has_them)
     where
       async-row : (s r : Bool) → not s && r ≡ true → s ≡ false
       async-row true r h = cc
@@ -135,7 +135,7 @@ contains-in {A} xs x c = All-contains (λ y. In y xs) xs x (All-from_recursion (
     each [] f = tt
     each (y ∷ ys) f = (f y here, each ys (λ z i. f z (there i)))
 
--- what is said when a name gets something else
+-- what is printed when a name gets a new content
 
 kept-effects : (schema : Schema) (e : End) (link : List Packet) (ev : Event) (output : Output) (end : Side) (n : ℤ) (name : List ℕ) (effects : List What) → step schema e link ev ≡ Some output → output.lines ≡ map (line_of end) (what.Keep n name ∷ effects) → IsLineOf ev (what.Keep n name)
     → effects ≡ let_go_lines (outputs.is_open e.state) (held_by_name name e.names)
@@ -168,7 +168,7 @@ renamed-effects schema e link ev output is end (what.Let given id) effects at na
     let-effects schema e link ev output end given id effects is at (line-of-event schema e link ev output end (what.Let given id) effects is at) ∙ ap (λ (x : List ℕ). let_go_lines (outputs.is_open e.state) (held_by_name x e.names)) same
 renamed-effects schema e link ev output is end _ effects at name shown = cc
 
--- no line that gives a name is an effect
+-- a line that gives a name is not an effect
 naming-event : (w : What) (name : List ℕ) → name_given w ≡ Some name → is_effect w ≡ false
 naming-event (what.Keep n given) name shown = refl
 naming-event (what.Let given id) name shown = refl
@@ -177,39 +177,39 @@ naming-event _ name shown = cc
 module _ (schema : Schema) (lines : List Line) where
   -- Drops
 
-  pub drops-told : EventsAreTold schema lines → (end : Side) (n route : ℤ) (number : ℕ) (id : ℤ) (before behind : List Line) → lines ≡ before ++ line_of end (what.Drop n route number id) ∷ behind
-      → HasEffects end (fault_due (is_open_by (said_by end before) && owes_reply schema number) n reason.ActorDestroyed) behind
-  drops-told told end n route number id before behind at =
-      let i : EventIn (TellingStep schema end) end (what.Drop n route number id) before behind = told end (what.Drop n route number id) before behind refl at in
+  pub drops-told : EventsAreTold schema lines → (end : Side) (n route : ℤ) (number : ℕ) (id : ℤ) (before following : List Line) → lines ≡ before ++ line_of end (what.Drop n route number id) ∷ following
+      → HasEffects end (fault_due (is_open_by (said_by end before) && owes_reply schema number) n reason.ActorDestroyed) following
+  drops-told told end n route number id before following at =
+      let i : EventIn (TellingStep schema end) end (what.Drop n route number id) before following = told end (what.Drop n route number id) before following refl at in
       let are : i.effects ≡ fault_due (is_open i.by.e.state && owes_reply schema number) n reason.ActorDestroyed = drop-effects schema i.by.e i.by.link i.by.happened i.output i.by.made end n route number id i.effects i.lines in
-      subst (λ (ws : List What). HasEffects end ws behind) (are ∙ ap (λ (s : _). fault_due (is_open s && owes_reply schema number) n reason.ActorDestroyed) (sym i.by.tells.state)) i.has
+      subst (λ (ws : List What). HasEffects end ws following) (are ∙ ap (λ (s : _). fault_due (is_open s && owes_reply schema number) n reason.ActorDestroyed) (sym i.by.tells.state)) i.has
 
   -- Returns
 
-  pub returns-sync : EventsAreTold schema lines → (end : Side) (n : ℤ) (d : HandledRequest) (below : List CallFrame) (before behind : List Line) → lines ≡ before ++ line_of end (what.Return n) ∷ behind → stack schema end before ≡ frame.Dispatch d ∷ below
-      → IsTrue (is_open_by (said_by end before) && is_sync_number schema d.number) → (w : What) × (more : List What) × IsReturned d.seq w × HasEffects end (w ∷ more) behind
-  returns-sync told end n d below before behind at top =
-      let i : EventIn (TellingStep schema end) end (what.Return n) before behind = told end (what.Return n) before behind refl at in
-      sync-answered schema i.by.e end before i.by.tells d below top n i.effects (return-effects schema i.by.e i.by.link i.by.happened i.output i.by.made end n i.effects i.lines) behind i.has
+  pub returns-sync : EventsAreTold schema lines → (end : Side) (n : ℤ) (d : HandledRequest) (below : List CallFrame) (before following : List Line) → lines ≡ before ++ line_of end (what.Return n) ∷ following → stack schema end before ≡ frame.Dispatch d ∷ below
+      → IsTrue (is_open_by (said_by end before) && is_sync_number schema d.number) → (w : What) × (more : List What) × IsReturned d.seq w × HasEffects end (w ∷ more) following
+  returns-sync told end n d below before following at top =
+      let i : EventIn (TellingStep schema end) end (what.Return n) before following = told end (what.Return n) before following refl at in
+      sync-answered schema i.by.e end before i.by.tells d below top n i.effects (return-effects schema i.by.e i.by.link i.by.happened i.output i.by.made end n i.effects i.lines) following i.has
 
-  pub returns-destroyed : EventsAreKept schema (ResolversAreTold schema) lines → (end : Side) (n : ℤ) (d : HandledRequest) (below : List CallFrame) (before behind : List Line) → lines ≡ before ++ line_of end (what.Return n) ∷ behind → stack schema end before ≡ frame.Dispatch d ∷ below
-      → IsTrue (has_resolver schema (said_by end before) d) → (more : List What) × HasEffects end (what.AnswerFault d.seq reason.ResolverDestroyed ∷ more) behind
-  returns-destroyed told end n d below before behind at top h =
-      let i : EventIn (KeptStep schema (ResolversAreTold schema) end) end (what.Return n) before behind = told end (what.Return n) before behind refl at in
+  pub returns-destroyed : EventsAreKept schema (ResolversAreTold schema) lines → (end : Side) (n : ℤ) (d : HandledRequest) (below : List CallFrame) (before following : List Line) → lines ≡ before ++ line_of end (what.Return n) ∷ following → stack schema end before ≡ frame.Dispatch d ∷ below
+      → IsTrue (has_resolver schema (said_by end before) d) → (more : List What) × HasEffects end (what.AnswerFault d.seq reason.ResolverDestroyed ∷ more) following
+  returns-destroyed told end n d below before following at top h =
+      let i : EventIn (KeptStep schema (ResolversAreTold schema) end) end (what.Return n) before following = told end (what.Return n) before following refl at in
       let p = parts-of (is_open_by (said_by end before)) (wants_number schema d.number) (has (answered (said_by end before)) d.seq) (has (kept (said_by end before)) d.seq) h in
       let opened : outputs.is_open i.by.e.state ≡ true = sym (ap is_open i.by.tells.state ∙ open-same i.by.e.state) ∙ p.0 in
-      destroyed-answered schema i.by.e end before i.by.tells d below top n i.effects (return-effects schema i.by.e i.by.link i.by.happened i.output i.by.made end n i.effects i.lines) behind i.has (i.by.kept opened).0 h
+      destroyed-answered schema i.by.e end before i.by.tells d below top n i.effects (return-effects schema i.by.e i.by.link i.by.happened i.output i.by.made end n i.effects i.lines) following i.has (i.by.kept opened).0 h
 
   -- Names
 
-  pub renames-told : EventsAreKept schema (ResolversAreTold schema) lines → (end : Side) (w : What) (name : List ℕ) (n : ℤ) (before behind : List Line) → lines ≡ before ++ line_of end w ∷ behind → name_given w ≡ Some name → IsTrue (is_open_by (said_by end before))
-      → Contains (said_by end before) (what.Keep n name) → has (answered (said_by end before)) n ≡ false → HasEffects end (what.AnswerFault n reason.ResolverDestroyed ∷ []) behind
-  renames-told told end w name n before behind at shown opens keeps unused =
-      let i : EventIn (KeptStep schema (ResolversAreTold schema) end) end w before behind = told end w before behind (naming-event w name shown) at in
+  pub renames-told : EventsAreKept schema (ResolversAreTold schema) lines → (end : Side) (w : What) (name : List ℕ) (n : ℤ) (before following : List Line) → lines ≡ before ++ line_of end w ∷ following → name_given w ≡ Some name → IsTrue (is_open_by (said_by end before))
+      → Contains (said_by end before) (what.Keep n name) → has (answered (said_by end before)) n ≡ false → HasEffects end (what.AnswerFault n reason.ResolverDestroyed ∷ []) following
+  renames-told told end w name n before following at shown opens keeps unused =
+      let i : EventIn (KeptStep schema (ResolversAreTold schema) end) end w before following = told end w before following (naming-event w name shown) at in
       let opened : outputs.is_open i.by.e.state ≡ true = sym (ap is_open i.by.tells.state ∙ open-same i.by.e.state) ∙ opens in
       let held = (i.by.kept opened).1 n name (contains-in (said_by end before) (what.Keep n name) keeps) unused in
       let are : i.effects ≡ what.AnswerFault n reason.ResolverDestroyed ∷ [] =
       renamed-effects schema i.by.e i.by.link i.by.happened i.output i.by.made end w i.effects i.lines name shown
       ∙ (ap (λ (b : Bool). let_go_lines b (held_by_name name i.by.e.names)) opened
       ∙ (ap (let_go_lines true) held.1 ∙ ap (λ (k : ℤ). what.AnswerFault k reason.ResolverDestroyed ∷ []) held.2)) in
-      subst (λ (ws : List What). HasEffects end ws behind) are i.has
+      subst (λ (ws : List What). HasEffects end ws following) are i.has

@@ -1,4 +1,4 @@
--- A line of a history, and of a run of one end, stands among the lines of the step that printed it.
+-- A line of a history, and of a run of one end, is among the lines of the step that printed it.
 use Rattle.std.proofs.Common.{◌≡◌, ℕ, Bool, true, false, not, IsTrue, List, [], ◌∷◌, ◌++◌, map, Option, Some, None, refl, sym, ap, subst, append_assoc, ◌∙◌}
 use Rattle.std.specs.List.{AllByRecursion, list_all}
 use Rattle.std.proofs.lemmas.Bool.{and_from}
@@ -27,15 +27,16 @@ use Rattle.alone_laws.proofs.AloneRuns.{runs-keep}
 use Rattle.order_statements.specs.Shape.{HasEffects}
 
 -- An event line: the step that printed it began after the lines before it, and its effects follow.
-pub record EventIn (Step : List Line → Output → Type 0) (end : Side) (w : What) (before behind : List Line) : Type 0 where
+pub record EventIn (Step : List Line → Output → Type 0) (end : Side) (w : What) (before following : List Line) : Type 0 where
   pub output : Output
   pub by : Step before output
   pub effects : List What
   pub lines : output.lines ≡ map (line_of end) (w ∷ effects)
-  pub has : HasEffects end effects behind
+  pub has : HasEffects end effects following
 
--- An effect line: the step that printed it began earlier, with an event, and after its line some effects may stand before this one.
-pub record EffectIn (Step : List Line → Output → Type 0) (end : Side) (w : What) (before behind : List Line) : Type 0 where
+-- An effect line: the step that printed it began earlier, with an event, and some effects may be between the event's
+-- line and this one.
+pub record EffectIn (Step : List Line → Output → Type 0) (end : Side) (w : What) (before following : List Line) : Type 0 where
   pub start : List Line
   pub output : Output
   pub by : Step start output
@@ -45,7 +46,7 @@ pub record EffectIn (Step : List Line → Output → Type 0) (end : Side) (w : W
   pub more : List What
   pub before_is : before ≡ start ++ map (line_of end) (event ∷ earlier)
   pub lines : output.lines ≡ map (line_of end) (event ∷ (earlier ++ w ∷ more))
-  pub has : HasEffects end more behind
+  pub has : HasEffects end more following
 
 -- A step of a history, after these lines: one of its moves, at this end.
 pub record MoveAt (schema : Schema) (top : ℕ) (moves : List Move) (end : Side) (start : List Line) (output : Output) : Type 0 where
@@ -99,7 +100,7 @@ all-parts P [] ys h = (tt, h)
 all-parts P (x ∷ xs) ys h = let r = all-parts P xs ys h.1 in ((h.0, r.0), r.1)
 
 -- A line, and the lines of its step before it and after it.
-record LineIn (Step : List Line → Output → Type 0) (end : Side) (w : What) (before behind : List Line) : Type 0 where
+record LineIn (Step : List Line → Output → Type 0) (end : Side) (w : What) (before following : List Line) : Type 0 where
   start : List Line
   output : Output
   by : Step start output
@@ -109,20 +110,20 @@ record LineIn (Step : List Line → Output → Type 0) (end : Side) (w : What) (
   later : List Line
   before_is : before ≡ start ++ head
   lines : output.lines ≡ head ++ line_of end w ∷ tail
-  behind_is : behind ≡ tail ++ later
+  after_is : following ≡ tail ++ later
   moment : IsTrue (is_moment later)
 
 never : {A : Type 0} (b : Bool) → b ≡ true → b ≡ false → A
 never true h k = cc
 never false h k = cc
 
-effects-behind : (end : Side) (tail behind later : List Line) → AllByRecursion (IsEffectOf end) tail → behind ≡ tail ++ later → IsTrue (is_moment later) → HasEffects end (whats tail) behind
-effects-behind end tail behind later all is moment = record { later = later; split = is ∙ ap (λ (ls : List Line). ls ++ later) (of-side end tail all); are_effects = effects-of end tail all; moment = moment }
+effects-following : (end : Side) (tail following later : List Line) → AllByRecursion (IsEffectOf end) tail → following ≡ tail ++ later → IsTrue (is_moment later) → HasEffects end (whats tail) following
+effects-following end tail following later all is moment = record { later = later; split = is ∙ ap (λ (ls : List Line). ls ++ later) (of-side end tail all); are_effects = effects-of end tail all; moment = moment }
 
-event-in : {Step : List Line → Output → Type 0} {end : Side} {w : What} {before behind : List Line} → is_effect w ≡ false → LineIn Step end w before behind → EventIn Step end w before behind
-event-in {Step} {end} {w} {before} {behind} is l = by l.head l.before_is l.lines
+event-in : {Step : List Line → Output → Type 0} {end : Side} {w : What} {before following : List Line} → is_effect w ≡ false → LineIn Step end w before following → EventIn Step end w before following
+event-in {Step} {end} {w} {before} {following} is l = by l.head l.before_is l.lines
   where
-    by : (head : List Line) → before ≡ l.start ++ head → l.output.lines ≡ head ++ line_of end w ∷ l.tail → EventIn Step end w before behind
+    by : (head : List Line) → before ≡ l.start ++ head → l.output.lines ≡ head ++ line_of end w ∷ l.tail → EventIn Step end w before following
     by [] at lines =
         let h : IsEventWithEffects end (line_of end w ∷ l.tail) = subst (IsEventWithEffects end) lines l.printed in
         record {
@@ -130,17 +131,17 @@ event-in {Step} {end} {w} {before} {behind} is l = by l.head l.before_is l.lines
           by = subst (λ (ls : List Line). Step ls l.output) (sym (at ∙ append-nil l.start)) l.by;
           effects = whats l.tail;
           lines = lines ∙ ap (λ (ls : List Line). line_of end w ∷ ls) (of-side end l.tail h.1);
-          has = effects-behind end l.tail behind l.later h.1 l.behind_is l.moment;
+          has = effects-following end l.tail following l.later h.1 l.after_is l.moment;
         }
     by (x ∷ head) at lines =
         let h : IsEventWithEffects end (x ∷ (head ++ line_of end w ∷ l.tail)) = subst (IsEventWithEffects end) lines l.printed in
         let r = all-parts (IsEffectOf end) head (line_of end w ∷ l.tail) h.1 in
         never (is_effect w) r.1.0.1 is
 
-effect-in : {Step : List Line → Output → Type 0} {end : Side} {w : What} {before behind : List Line} → is_effect w ≡ true → LineIn Step end w before behind → EffectIn Step end w before behind
-effect-in {Step} {end} {w} {before} {behind} is l = by l.head l.before_is l.lines
+effect-in : {Step : List Line → Output → Type 0} {end : Side} {w : What} {before following : List Line} → is_effect w ≡ true → LineIn Step end w before following → EffectIn Step end w before following
+effect-in {Step} {end} {w} {before} {following} is l = by l.head l.before_is l.lines
   where
-    by : (head : List Line) → before ≡ l.start ++ head → l.output.lines ≡ head ++ line_of end w ∷ l.tail → EffectIn Step end w before behind
+    by : (head : List Line) → before ≡ l.start ++ head → l.output.lines ≡ head ++ line_of end w ∷ l.tail → EffectIn Step end w before following
     by [] at lines =
         let h : IsEventWithEffects end (line_of end w ∷ l.tail) = subst (IsEventWithEffects end) lines l.printed in
         never (is_effect w) is h.0.1
@@ -162,7 +163,7 @@ effect-in {Step} {end} {w} {before} {behind} is l = by l.head l.before_is l.line
               ∙ (ap (λ (ls : List Line). ls ++ line_of end w ∷ l.tail) front
               ∙ (ap (λ (ls : List Line). map (line_of end) (x.what ∷ whats head) ++ line_of end w ∷ ls) (of-side end l.tail r.1.1)
               ∙ ap (λ (ls : List Line). line_of end x.what ∷ ls) (sym (map-append (line_of end) (whats head) (w ∷ whats l.tail)))));
-          has = effects-behind end l.tail behind l.later r.1.1 l.behind_is l.moment;
+          has = effects-following end l.tail following l.later r.1.1 l.after_is l.moment;
         }
 
 line-side : (s : Side) (ls front : List Line) (l : Line) (rest : List Line) → IsEventWithEffects s ls → ls ≡ front ++ l ∷ rest → l.side ≡ s
@@ -184,29 +185,29 @@ step-moment schema e link happened output made = by output.lines (events_have_th
 
 -- Places in two lists
 
--- A place in two lists, one after the other, is one in the first or one in the second.
-pub data PlaceIn {X : Type 0} (xs ys before : List X) (l : X) (behind : List X) : Type 0 where
-  in_first : (rest : List X) → xs ≡ before ++ l ∷ rest → behind ≡ rest ++ ys → PlaceIn xs ys before l behind
-  in_second : (front : List X) → before ≡ xs ++ front → ys ≡ front ++ l ∷ behind → PlaceIn xs ys before l behind
+-- A place in two lists, one after the other, is in the first or in the second.
+pub data PlaceIn {X : Type 0} (xs ys before : List X) (l : X) (following : List X) : Type 0 where
+  in_first : (rest : List X) → xs ≡ before ++ l ∷ rest → following ≡ rest ++ ys → PlaceIn xs ys before l following
+  in_second : (front : List X) → before ≡ xs ++ front → ys ≡ front ++ l ∷ following → PlaceIn xs ys before l following
 
-pub place-in : {X : Type 0} (xs ys before : List X) (l : X) (behind : List X) → xs ++ ys ≡ before ++ l ∷ behind → PlaceIn xs ys before l behind
-place-in [] ys before l behind e = in_second before refl e
-place-in (x ∷ xs) ys [] l behind e =
+pub place-in : {X : Type 0} (xs ys before : List X) (l : X) (following : List X) → xs ++ ys ≡ before ++ l ∷ following → PlaceIn xs ys before l following
+place-in [] ys before l following e = in_second before refl e
+place-in (x ∷ xs) ys [] l following e =
     let first : x ≡ l = cc in
-    let rest : xs ++ ys ≡ behind = cc in
+    let rest : xs ++ ys ≡ following = cc in
     in_first xs (ap (λ y. y ∷ xs) first) (sym rest)
-place-in {X} (x ∷ xs) ys (b ∷ before) l behind e =
+place-in {X} (x ∷ xs) ys (b ∷ before) l following e =
     let first : x ≡ b = cc in
-    let rest : xs ++ ys ≡ before ++ l ∷ behind = cc in
-    by first (place-in xs ys before l behind rest)
+    let rest : xs ++ ys ≡ before ++ l ∷ following = cc in
+    by first (place-in xs ys before l following rest)
   where
-    by : x ≡ b → PlaceIn xs ys before l behind → PlaceIn (x ∷ xs) ys (b ∷ before) l behind
+    by : x ≡ b → PlaceIn xs ys before l following → PlaceIn (x ∷ xs) ys (b ∷ before) l following
     by first (in_first rest is same) = in_first rest (ap (λ (zs : List X). x ∷ zs) is ∙ ap (λ (y : X). y ∷ before ++ l ∷ rest) first) same
     by first (in_second front is same) = in_second front (ap (λ (zs : List X). b ∷ zs) is ∙ ap (λ (y : X). y ∷ xs ++ front) (sym first)) same
 
-no-place : {A : Type 0} (before : List Line) (l : Line) (behind : List Line) → [] ≡ before ++ l ∷ behind → A
-no-place [] l behind e = cc
-no-place (b ∷ before) l behind e = cc
+no-place : {A : Type 0} (before : List Line) (l : Line) (following : List Line) → [] ≡ before ++ l ∷ following → A
+no-place [] l following e = cc
+no-place (b ∷ before) l following e = cc
 
 -- Histories
 
@@ -218,8 +219,8 @@ run-moment schema (move ∷ moves) w = by (output_of schema w move) refl (λ v. 
     by None is rec = rec w
     by (Some output) is rec = event-first (end_of move.side w).side output.lines (run schema moves (passed_by (Some output) move w).world).lines (events_have_their_lines schema (end_of move.side w) (link_to move.side w) move.event output is).lines
 
--- The move that printed a line, from a world on.
-record PrintedBy (schema : Schema) (w : World) (moves : List Move) (before : List Line) (l : Line) (behind : List Line) : Type 0 where
+-- The move that printed a line, in a run from some world.
+record PrintedBy (schema : Schema) (w : World) (moves : List Move) (before : List Line) (l : Line) (following : List Line) : Type 0 where
   front : List Move
   move : Move
   back : List Move
@@ -231,15 +232,15 @@ record PrintedBy (schema : Schema) (w : World) (moves : List Move) (before : Lis
   later : List Line
   before_is : before ≡ (run schema front w).lines ++ head
   lines : output.lines ≡ head ++ l ∷ tail
-  behind_is : behind ≡ tail ++ later
+  after_is : following ≡ tail ++ later
   moment : IsTrue (is_moment later)
 
-printed-by : (schema : Schema) (moves : List Move) (w : World) (before : List Line) (l : Line) (behind : List Line) → (run schema moves w).lines ≡ before ++ l ∷ behind → PrintedBy schema w moves before l behind
-printed-by schema [] w before l behind e = no-place before l behind e
-printed-by schema (move ∷ moves) w before l behind e =
-    by (place-in (happens schema w move).lines (run schema moves (happens schema w move).world).lines before l behind e) (λ front is. printed-by schema moves (happens schema w move).world front l behind is)
+printed-by : (schema : Schema) (moves : List Move) (w : World) (before : List Line) (l : Line) (following : List Line) → (run schema moves w).lines ≡ before ++ l ∷ following → PrintedBy schema w moves before l following
+printed-by schema [] w before l following e = no-place before l following e
+printed-by schema (move ∷ moves) w before l following e =
+    by (place-in (happens schema w move).lines (run schema moves (happens schema w move).world).lines before l following e) (λ front is. printed-by schema moves (happens schema w move).world front l following is)
   where
-    first : (found : Option Output) → output_of schema w move ≡ found → (rest : List Line) → (passed_by found move w).lines ≡ before ++ l ∷ rest → behind ≡ rest ++ (run schema moves (happens schema w move).world).lines → PrintedBy schema w (move ∷ moves) before l behind
+    first : (found : Option Output) → output_of schema w move ≡ found → (rest : List Line) → (passed_by found move w).lines ≡ before ++ l ∷ rest → following ≡ rest ++ (run schema moves (happens schema w move).world).lines → PrintedBy schema w (move ∷ moves) before l following
     first None is rest at same = no-place before l rest at
     first (Some output) is rest at same = record {
       front = [];
@@ -253,12 +254,12 @@ printed-by schema (move ∷ moves) w before l behind e =
       later = (run schema moves (happens schema w move).world).lines;
       before_is = refl;
       lines = at;
-      behind_is = same;
+      after_is = same;
       moment = run-moment schema moves (happens schema w move).world;
     }
 
-    by : PlaceIn (happens schema w move).lines (run schema moves (happens schema w move).world).lines before l behind
-        → ((front : List Line) → (run schema moves (happens schema w move).world).lines ≡ front ++ l ∷ behind → PrintedBy schema (happens schema w move).world moves front l behind) → PrintedBy schema w (move ∷ moves) before l behind
+    by : PlaceIn (happens schema w move).lines (run schema moves (happens schema w move).world).lines before l following
+        → ((front : List Line) → (run schema moves (happens schema w move).world).lines ≡ front ++ l ∷ following → PrintedBy schema (happens schema w move).world moves front l following) → PrintedBy schema w (move ∷ moves) before l following
     by (in_first rest at same) rec = first (output_of schema w move) refl rest at same
     by (in_second front is same) rec =
         let p = rec front same in
@@ -274,13 +275,13 @@ printed-by schema (move ∷ moves) w before l behind e =
           later = p.later;
           before_is = is ∙ (ap (λ (ls : List Line). (happens schema w move).lines ++ ls) p.before_is ∙ sym (append_assoc (happens schema w move).lines (run schema p.front (happens schema w move).world).lines p.head));
           lines = p.lines;
-          behind_is = p.behind_is;
+          after_is = p.after_is;
           moment = p.moment;
         }
 
-history-line : (schema : Schema) → IsSound schema → (top : ℕ) (moves : List Move) (end : Side) (w : What) (before behind : List Line) → history_of schema top moves ≡ before ++ line_of end w ∷ behind → LineIn (MoveAt schema top moves end) end w before behind
-history-line schema sound top moves end w before behind e =
-    let p = printed-by schema moves (opening top) before (line_of end w) behind e in
+history-line : (schema : Schema) → IsSound schema → (top : ℕ) (moves : List Move) (end : Side) (w : What) (before following : List Line) → history_of schema top moves ≡ before ++ line_of end w ∷ following → LineIn (MoveAt schema top moves end) end w before following
+history-line schema sound top moves end w before following e =
+    let p = printed-by schema moves (opening top) before (line_of end w) following e in
     let world : World = world_of schema top p.front in
     let printed : IsEventWithEffects (end_of p.move.side world).side p.output.lines = (events_have_their_lines schema (end_of p.move.side world) (link_to p.move.side world) p.move.event p.output p.made).lines in
     let here : end ≡ (end_of p.move.side world).side = line-side (end_of p.move.side world).side p.output.lines p.head (line_of end w) p.tail printed p.lines in
@@ -294,26 +295,26 @@ history-line schema sound top moves end w before behind e =
       later = p.later;
       before_is = p.before_is;
       lines = p.lines;
-      behind_is = p.behind_is;
+      after_is = p.after_is;
       moment = p.moment;
     }
 
 -- an event in a legal history, and an effect
-pub event-at : (schema : Schema) → IsSound schema → (top : ℕ) (moves : List Move) (end : Side) (w : What) (before behind : List Line) → is_effect w ≡ false → history_of schema top moves ≡ before ++ line_of end w ∷ behind → EventIn (MoveAt schema top moves end) end w before behind
-event-at schema sound top moves end w before behind is e = event-in is (history-line schema sound top moves end w before behind e)
+pub event-at : (schema : Schema) → IsSound schema → (top : ℕ) (moves : List Move) (end : Side) (w : What) (before following : List Line) → is_effect w ≡ false → history_of schema top moves ≡ before ++ line_of end w ∷ following → EventIn (MoveAt schema top moves end) end w before following
+event-at schema sound top moves end w before following is e = event-in is (history-line schema sound top moves end w before following e)
 
-pub effect-at : (schema : Schema) → IsSound schema → (top : ℕ) (moves : List Move) (end : Side) (w : What) (before behind : List Line) → is_effect w ≡ true → history_of schema top moves ≡ before ++ line_of end w ∷ behind → EffectIn (MoveAt schema top moves end) end w before behind
-effect-at schema sound top moves end w before behind is e = effect-in is (history-line schema sound top moves end w before behind e)
+pub effect-at : (schema : Schema) → IsSound schema → (top : ℕ) (moves : List Move) (end : Side) (w : What) (before following : List Line) → is_effect w ≡ true → history_of schema top moves ≡ before ++ line_of end w ∷ following → EffectIn (MoveAt schema top moves end) end w before following
+effect-at schema sound top moves end w before following is e = effect-in is (history-line schema sound top moves end w before following e)
 
 -- Runs of one end
 
 module _ (schema : Schema) (sound : IsSound schema) (top : ℕ) (side : Side) (end : Side) (w : What) where
   -- a line among those of the last step
   new-line : (e : End) (start : List Line) (packets link : List Packet) (happened : Event) (given : List Packet) (output : Output) → RunsAlone schema top side e start packets → IsAloneStep schema e packets link happened given → step schema e link happened ≡ Some output
-      → (before behind front : List Line) → before ≡ start ++ front → output.lines ≡ front ++ line_of end w ∷ behind → (end ≡ side) × LineIn (StepAt schema top side) end w before behind
-  new-line e start packets link happened given output run kind made before behind front is same =
+      → (before following front : List Line) → before ≡ start ++ front → output.lines ≡ front ++ line_of end w ∷ following → (end ≡ side) × LineIn (StepAt schema top side) end w before following
+  new-line e start packets link happened given output run kind made before following front is same =
       let printed : IsEventWithEffects e.side output.lines = (events_have_their_lines schema e link happened output made).lines in
-      let here : end ≡ e.side = line-side e.side output.lines front (line_of end w) behind printed same in (
+      let here : end ≡ e.side = line-side e.side output.lines front (line_of end w) following printed same in (
         here ∙ (runs-keep schema sound top side e start packets run).side_is,
         record {
           start = start;
@@ -321,18 +322,18 @@ module _ (schema : Schema) (sound : IsSound schema) (top : ℕ) (side : Side) (e
           by = record { e = e; packets = packets; run = run; link = link; happened = happened; given = given; kind = kind; made = made };
           printed = subst (λ (s : Side). IsEventWithEffects s output.lines) (sym here) printed;
           head = front;
-          tail = behind;
+          tail = following;
           later = [];
           before_is = is;
           lines = same;
-          behind_is = sym (append-nil behind);
+          after_is = sym (append-nil following);
           moment = refl;
         },
       )
 
   -- a line of an earlier step
-  old-line : (before rest more behind : List Line) → IsTrue (is_moment more) → behind ≡ rest ++ more → (end ≡ side) × LineIn (StepAt schema top side) end w before rest → (end ≡ side) × LineIn (StepAt schema top side) end w before behind
-  old-line before rest more behind m same (here, l) = (
+  old-line : (before rest more following : List Line) → IsTrue (is_moment more) → following ≡ rest ++ more → (end ≡ side) × LineIn (StepAt schema top side) end w before rest → (end ≡ side) × LineIn (StepAt schema top side) end w before following
+  old-line before rest more following m same (here, l) = (
     here,
     record {
       start = l.start;
@@ -344,7 +345,7 @@ module _ (schema : Schema) (sound : IsSound schema) (top : ℕ) (side : Side) (e
       later = l.later ++ more;
       before_is = l.before_is;
       lines = l.lines;
-      behind_is = same ∙ (ap (λ (ls : List Line). ls ++ more) l.behind_is ∙ append_assoc l.tail l.later more);
+      after_is = same ∙ (ap (λ (ls : List Line). ls ++ more) l.after_is ∙ append_assoc l.tail l.later more);
       moment = both l.later l.moment;
     },
   )
@@ -353,21 +354,21 @@ module _ (schema : Schema) (sound : IsSound schema) (top : ℕ) (side : Side) (e
       both [] k = m
       both (x ∷ later) k = k
 
-  alone-line : (e : End) (lines : List Line) (packets : List Packet) → RunsAlone schema top side e lines packets → (before behind : List Line) → lines ≡ before ++ line_of end w ∷ behind → (end ≡ side) × LineIn (StepAt schema top side) end w before behind
-  alone-line _ _ _ begins before behind at = no-place before (line_of end w) behind at
-  alone-line _ _ _ (does {e = e} {lines = lines} {packets = packets} own output run made) before behind at =
-      by (place-in lines output.lines before (line_of end w) behind at) (λ rest is. alone-line e lines packets run before rest is)
+  alone-line : (e : End) (lines : List Line) (packets : List Packet) → RunsAlone schema top side e lines packets → (before following : List Line) → lines ≡ before ++ line_of end w ∷ following → (end ≡ side) × LineIn (StepAt schema top side) end w before following
+  alone-line _ _ _ begins before following at = no-place before (line_of end w) following at
+  alone-line _ _ _ (does {e = e} {lines = lines} {packets = packets} own output run made) before following at =
+      by (place-in lines output.lines before (line_of end w) following at) (λ rest is. alone-line e lines packets run before rest is)
     where
-      by : PlaceIn lines output.lines before (line_of end w) behind → ((rest : List Line) → lines ≡ before ++ line_of end w ∷ rest → (end ≡ side) × LineIn (StepAt schema top side) end w before rest) → (end ≡ side) × LineIn (StepAt schema top side) end w before behind
-      by (in_first rest is same) rec = old-line before rest output.lines behind (step-moment schema e [] own output made) same (rec rest is)
-      by (in_second front is same) rec = new-line e lines packets [] own packets output run (acts own) made before behind front is same
-  alone-line _ _ _ (accepts {e = e} {lines = lines} {packets = packets} packet output run fits accepted made) before behind at =
-      by (place-in lines output.lines before (line_of end w) behind at) (λ rest is. alone-line e lines packets run before rest is)
+      by : PlaceIn lines output.lines before (line_of end w) following → ((rest : List Line) → lines ≡ before ++ line_of end w ∷ rest → (end ≡ side) × LineIn (StepAt schema top side) end w before rest) → (end ≡ side) × LineIn (StepAt schema top side) end w before following
+      by (in_first rest is same) rec = old-line before rest output.lines following (step-moment schema e [] own output made) same (rec rest is)
+      by (in_second front is same) rec = new-line e lines packets [] own packets output run (acts own) made before following front is same
+  alone-line _ _ _ (accepts {e = e} {lines = lines} {packets = packets} packet output run fits accepted made) before following at =
+      by (place-in lines output.lines before (line_of end w) following at) (λ rest is. alone-line e lines packets run before rest is)
     where
-      by : PlaceIn lines output.lines before (line_of end w) behind → ((rest : List Line) → lines ≡ before ++ line_of end w ∷ rest → (end ≡ side) × LineIn (StepAt schema top side) end w before rest) → (end ≡ side) × LineIn (StepAt schema top side) end w before behind
-      by (in_first rest is same) rec = old-line before rest output.lines behind (step-moment schema e (packet ∷ []) event.deliver output made) same (rec rest is)
-      by (in_second front is same) rec = new-line e lines packets (packet ∷ []) event.deliver (packets ++ packet ∷ []) output run (gets packet fits accepted) made before behind front is same
+      by : PlaceIn lines output.lines before (line_of end w) following → ((rest : List Line) → lines ≡ before ++ line_of end w ∷ rest → (end ≡ side) × LineIn (StepAt schema top side) end w before rest) → (end ≡ side) × LineIn (StepAt schema top side) end w before following
+      by (in_first rest is same) rec = old-line before rest output.lines following (step-moment schema e (packet ∷ []) event.deliver output made) same (rec rest is)
+      by (in_second front is same) rec = new-line e lines packets (packet ∷ []) event.deliver (packets ++ packet ∷ []) output run (gets packet fits accepted) made before following front is same
 
--- an event in a run of one end, and an effect; there all lines are of that end
-pub event-alone : (schema : Schema) → IsSound schema → (top : ℕ) (side : Side) (e : End) (lines : List Line) (packets : List Packet) → RunsAlone schema top side e lines packets → (end : Side) (w : What) (before behind : List Line) → is_effect w ≡ false → lines ≡ before ++ line_of end w ∷ behind → (end ≡ side) × EventIn (StepAt schema top side) end w before behind
-event-alone schema sound top side e lines packets run end w before behind is at = let l = alone-line schema sound top side end w e lines packets run before behind at in (l.0, event-in is l.1)
+-- an event in a run of one end, and an effect; all lines of such a run are of that end
+pub event-alone : (schema : Schema) → IsSound schema → (top : ℕ) (side : Side) (e : End) (lines : List Line) (packets : List Packet) → RunsAlone schema top side e lines packets → (end : Side) (w : What) (before following : List Line) → is_effect w ≡ false → lines ≡ before ++ line_of end w ∷ following → (end ≡ side) × EventIn (StepAt schema top side) end w before following
+event-alone schema sound top side e lines packets run end w before following is at = let l = alone-line schema sound top side end w e lines packets run before following at in (l.0, event-in is l.1)

@@ -1,4 +1,4 @@
--- An act that is refused does nothing else.
+-- An act that is refused has no effects.
 use Rattle.std.proofs.Common.{◌≡◌, ℤ, Bool, true, false, IsTrue, List, [], ◌∷◌, ◌++◌, if◌then◌else◌, Option, Some, None, refl, sym, ap, subst, ◌∙◌}
 use Rattle.ipdl_base.specs.declared.kinds.Side.{Side}
 use Rattle.ipdl_base.specs.declared.line.Line.{Line}
@@ -103,10 +103,10 @@ refusal-event (what.RefusedResolve cause) h = refl
 refusal-event (what.RefusedReject cause) h = refl
 refusal-event _ h = cc
 
-pub refusals-do-nothing : (schema : Schema) (lines : List Line) → EventsAreTold schema lines → (end : Side) (w : What) (before behind : List Line) → lines ≡ before ++ line_of end w ∷ behind → IsTrue (is_refusal w) → HasEffects end [] behind
-refusals-do-nothing schema lines told end w before behind at refused =
-    let i = told end w before behind (refusal-event w refused) at in
-    subst (λ (ws : List What). HasEffects end ws behind) (by (made-of schema i.by.e i.by.link i.by.happened i.output i.by.made end (w ∷ i.effects) i.lines)) i.has
+pub refusals-do-nothing : (schema : Schema) (lines : List Line) → EventsAreTold schema lines → (end : Side) (w : What) (before following : List Line) → lines ≡ before ++ line_of end w ∷ following → IsTrue (is_refusal w) → HasEffects end [] following
+refusals-do-nothing schema lines told end w before following at refused =
+    let i = told end w before following (refusal-event w refused) at in
+    subst (λ (ws : List What). HasEffects end ws following) (by (made-of schema i.by.e i.by.link i.by.happened i.output i.by.made end (w ∷ i.effects) i.lines)) i.has
   where
     by : {e : End} {output : Output} {effects : List What} → MadeOf schema e output (w ∷ effects) → effects ≡ []
     by {effects = effects} (of_own parts) = own-refuses w effects refused parts refl

@@ -1,4 +1,4 @@
--- A request that is replaced is answered where it makes a promise, and nothing else follows.
+-- A request that is replaced is answered if it makes a promise, and there is no other effect.
 use Rattle.std.proofs.Common.{◌≡◌, ℕ, ℤ, Bool, true, false, List, [], ◌∷◌, ◌++◌, map, Option, refl, sym, ap, subst, ◌∙◌}
 use Rattle.std.specs.Option.{option_map_or}
 use Rattle.ipdl_base.specs.declared.kinds.Reason.TheVariants as reason
@@ -70,7 +70,7 @@ none-replaced (w ∷ ws) [] n more h e = let same : w ≡ what.Replaced n = cc i
     no-line k = elim k [ ]
 none-replaced (w ∷ ws) (x ∷ front) n more h e = let rest : ws ≡ front ++ what.Replaced n ∷ more = cc in none-replaced ws front n more h.1 rest
 
--- What the line of a request that is replaced tells.
+-- What the line of a request that is replaced shows.
 pub record TellsReplaced (schema : Schema) (theirs : List Note) (n : ℤ) (more : List What) : Type 0 where
   pub route : ℤ
   pub number : ℕ

@@ -1,5 +1,5 @@
--- While an end is open, the lines tell where the resolvers are: a dispatch has its own until it was used or kept, and a
--- name under which one was kept holds it until it was used.
+-- While an end is open, the lines show where the resolvers are: a dispatch has its own until it is used or kept, and
+-- a name under which a resolver was kept has it until it is used.
 use Rattle.std.proofs.Common.{◌≡◌, ◌⊎◌, inl, inr, ℕ, ◌+◌, ℤ, pos, Bool, true, false, not, ◌&&◌, ◌||◌, if◌then◌else◌, cond, int_eq, List, [], ◌∷◌, ◌++◌, drop, find, map, Option, Some, None, is_some, option_and_then, option_map, refl, sym, ap, subst, append_assoc, ◌∙◌}
 use Rattle.std.specs.List.{AllByRecursion}
 use Rattle.std.specs.Option.{option_map_or}
@@ -74,7 +74,7 @@ whats-of : (s : Side) (ws : List What) → whats (map (line_at s) ws) ≡ ws
 whats-of s [] = refl
 whats-of s (w ∷ ws) = ap (λ (xs : List What). w ∷ xs) (whats-of s ws)
 
--- an element of two lists is one of the first or one of the second
+-- an element of two lists is in the first or in the second
 in-parts : {A : Type 0} {x : A} (xs ys : List A) → In x (xs ++ ys) → In x xs ⊎ In x ys
 in-parts [] ys i = inr i
 in-parts (y ∷ xs) ys here = inl here
@@ -94,14 +94,14 @@ spent-more : (said more : List What) (n : ℤ) → IsSpent said n → IsSpent (s
 spent-more said more n (inl h) = inl (has-append number_answered said more n ∙ or_left (has (shape.answered said) n) (has (shape.answered more) n) h)
 spent-more said more n (inr h) = inr (has-append number_kept said more n ∙ or_left (has (kept_numbers said) n) (has (kept_numbers more) n) h)
 
--- a dispatch whose request makes a promise has its resolver, or that is spent
+-- a dispatch whose request makes a promise has its resolver, or the resolver is spent
 abbrev pub HasOrSpent : Schema → List What → StackEntry → Type 0
 HasOrSpent schema said entry = is_dispatch entry.frame ≡ true → wants_number schema entry.number ≡ true → entry.resolves ≡ false → IsSpent said (head_of entry.frame).seq
 
 abbrev pub AllHaveOrSpent : Schema → List What → List StackEntry → Type 0
 AllHaveOrSpent schema said stack = AllByRecursion (HasOrSpent schema said) stack
 
--- what a name holds under which a resolver was kept that was not used
+-- the content of a name under which a resolver was kept that was not used
 abbrev pub NamesHold : List What → List Naming → Type 0
 NamesHold said names = (n : ℤ) (name : List ℕ) → In (what.Keep n name) said → has (shape.answered said) n ≡ false → (r : Resolver) × (held_by_name name names ≡ Some (resolver r)) × (r.seq ≡ n)
 
@@ -142,11 +142,11 @@ module _ (schema : Schema) where
 
   -- Outputs
 
-  -- At an open end the lines tell where the resolvers are, those of the step so far among them.
+  -- At an open end the lines show where the resolvers are, including the lines of the step so far.
   abbrev Told : List What → Output → Type 0
   Told said o = ResolversAreTold schema o.end (said ++ whats o.lines)
 
-  -- Names and state are the same, dispatches have their resolvers as before, and what is said more keeps none.
+  -- Names and state are the same, dispatches have their resolvers as before, and the further lines keep no resolver.
   record Adds (a b : Output) : Type 0 where
     stack : (said : List What) → AllHaveOrSpent schema said a.end.stack → AllHaveOrSpent schema said b.end.stack
     names : b.end.names ≡ a.end.names
@@ -168,7 +168,7 @@ module _ (schema : Schema) where
     unkept = all-append IsUnkept f.more g.more f.unkept g.unkept;
   }
 
-  -- nothing is said, and names and state are the same
+  -- nothing is printed, and names and state are the same
   adds-silent : (a b : Output) → ((said : List What) → AllHaveOrSpent schema said a.end.stack → AllHaveOrSpent schema said b.end.stack) → b.end.names ≡ a.end.names → b.end.state ≡ a.end.state → b.lines ≡ a.lines → Adds a b
   adds-silent a b stack names state lines = record { stack = stack; names = names; state = state; more = []; said = ap whats lines ∙ sym (append-nil (whats a.lines)); unkept = tt }
 
@@ -235,7 +235,7 @@ module _ (schema : Schema) where
     kept-apart : {A : Type 0} (more : List What) (n : ℤ) (name : List ℕ) → AllByRecursion IsUnkept more → In (what.Keep n name) more → A
     kept-apart more n name unkept i = let k : Some n ≡ None = in-all IsUnkept i unkept in cc
 
-    -- all that is said so far, with more
+    -- all that is printed so far, with more
     said-on : (a b : Output) (g : Adds a b) → said ++ whats b.lines ≡ (said ++ whats a.lines) ++ g.more
     said-on a b g = ap (λ (xs : List What). said ++ xs) g.said ∙ sym (append_assoc said (whats a.lines) g.more)
 
@@ -256,12 +256,12 @@ module _ (schema : Schema) where
     told-closed : (o : Output) → is_open o.end.state ≡ false → Told said o
     told-closed o shut opened = let k : true ≡ false = sym opened ∙ shut in cc
 
-    -- Names that are to hold something else
+    -- Names that get a new content
 
     same-name : (a b : List ℕ) (naming : Naming) → has_name a naming ≡ true → has_name b naming ≡ true → a ≡ b
     same-name a b naming p q = sym ((bytes_eq-Decides naming.name a).0 p) ∙ (bytes_eq-Decides naming.name b).0 q
 
-    -- a name that is not the one goes on to hold what it held
+    -- another name keeps its content
     other-held : (name other : List ℕ) (names : List Naming) (c : NameContent) (last : List Naming) → bytes_eq other name ≡ false → held_by_name other names ≡ Some c → held_by_name other (without_name name names ++ last) ≡ Some c
     other-held name other [] c last apart h = cc
     other-held name other (x ∷ xs) c last apart h = by (has_name name x) (has_name other x) refl refl h (other-held name other xs c last apart)
@@ -274,7 +274,7 @@ module _ (schema : Schema) where
         by false true p q k rec = ap (λ (b : Bool). option_map (λ (y : Naming). y.holds) (cond b (Some x) (find (has_name other) (without_name name xs ++ last)))) q ∙ k
         by false false p q k rec = ap (λ (b : Bool). option_map (λ (y : Naming). y.holds) (cond b (Some x) (find (has_name other) (without_name name xs ++ last)))) q ∙ rec k
 
-    -- the name holds what it is to hold
+    -- the name has its new content
     new-held : (name : List ℕ) (names : List Naming) (c : NameContent) → held_by_name name (without_name name names ++ holding name (Some c)) ≡ Some c
     new-held name [] c = ap (λ (b : Bool). option_map (λ (y : Naming). y.holds) (cond b (Some (record { name = name; holds = c })) None)) ((bytes_eq-Decides name name).1 refl)
     new-held name (x ∷ xs) c = by (has_name name x) refl (new-held name xs c)
@@ -293,7 +293,7 @@ module _ (schema : Schema) where
       lets-go : Adds unnamed gone
       lets-go = adds-let_go (held_by_name name o.end.names) unnamed
 
-      -- a resolver that the name held is answered
+      -- a resolver that the name had is answered
       let_go-answers : (before : Option NameContent) (r : Resolver) → before ≡ Some (resolver r) → is_open o.end.state ≡ true → whats (let_go before unnamed).lines ≡ whats o.lines ++ what.AnswerFault r.seq ResolverDestroyed ∷ []
       let_go-answers None r is opened = cc
       let_go-answers (Some (actor id)) r is opened = cc
@@ -516,7 +516,7 @@ module _ (schema : Schema) where
     told-goes a b (on g) h = told-adds a b g h
     told-goes a b (out shut) h = told-closed b shut
 
-    -- so it is where something was added first
+    -- the same if something was added first
     after-goes : (a b c : Output) → Adds a b → Goes b c → Goes a c
     after-goes a b c f (on g) = on (adds-chain a b c f g)
     after-goes a b c f (out shut) = out shut

@@ -1,4 +1,4 @@
--- What the return of a handler answers.
+-- The answer when a handler returns.
 use Rattle.std.proofs.Common.{◌≡◌, ℤ, Bool, true, false, ◌&&◌, if◌then◌else◌, List, [], ◌∷◌, ◌++◌, map, Option, Some, None, is_none, refl, sym, ap, append_assoc, ◌∙◌}
 use Rattle.std.proofs.lemmas.List.{append-nil}
 use Rattle.std.proofs.lemmas.Option.{same_Some}
@@ -35,8 +35,8 @@ use Rattle.law_statements.specs.Said.{line_of}
 use Rattle.order_statements.specs.Effects.{IsReturned, with_rejection, with_values}
 use Rattle.order_statements.proofs.StepLines.{MadeOf, answering-other, drops_or_returns, farewell-other, made-of, of_delivery, of_own, refusal-other, renaming-other, resume-other, send-other, shut-other, unknown-other}
 
--- A return, with the dispatch that it ends and all that is said after its line: the answer to a sync request, that of a
--- resolver that is left over, and what falls.
+-- A return, with the dispatch that it ends and all that is printed after its line: the answer to a sync request, that
+-- of a resolver that is still there, and the actors that fall.
 pub record Returned (schema : Schema) (e : End) (n : ℤ) (effects : List What) : Type 0 where
   pub entry : StackEntry
   pub row : MessageRow
@@ -97,7 +97,7 @@ module _ (schema : Schema) (n : ℤ) where
   delivery-return (parts.drains {e = f} packet farewell) more e = other-first _ (map what.Fails (delivery.unanswered f)) [] more (farewell-other packet) (append-nil _ ∙ e)
   delivery-return (parts.passes_by m farewell found) more e = other-first _ [] [] more (unknown-other m.seq m.body) e
 
--- what is said after the line of a return, in its step
+-- what is printed after the line of a return, in its step
 pub return-effects : (schema : Schema) (e : End) (link : List Packet) (ev : Event) (output : Output) → step schema e link ev ≡ Some output → (end : Side) (n : ℤ) (effects : List What) → output.lines ≡ map (line_of end) (what.Return n ∷ effects) → Returned schema e n effects
 return-effects schema e link ev output is end n effects at = by (made-of schema e link ev output is end (what.Return n ∷ effects) at)
   where

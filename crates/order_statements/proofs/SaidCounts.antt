@@ -1,4 +1,5 @@
--- Counts and tests of what an end has said: what it answers, what was delivered to it and has left, and whether it is open.
+-- Counts and tests of the lines of an end: what it answers, what was delivered to it and has left, and whether it is
+-- open.
 use Rattle.std.proofs.Common.{◌≡◌, ◌⊎◌, inl, inr, ℕ, ◌+◌, ◌≤◌, ℤ, Bool, true, false, ◌||◌, if◌then◌else◌, int_eq, List, [], ◌∷◌, ◌++◌, filter_map, map, Option, Some, None, refl, sym, ap, subst, append_assoc, ◌∙◌, arith}
 use Rattle.std.specs.List.{cons_option, list_any}
 use Rattle.std.specs.Prelude.{unwrap_or}
@@ -57,11 +58,11 @@ sent-answers : (schema : Schema) (n : ℤ) (before ws : List What) → replies_t
 sent-answers schema n before [] = refl
 sent-answers schema n before (w ∷ ws) = one-answers schema n before w (made_of (sent_at schema) (before ++ w ∷ []) ws) (filter_map number_answered ws) (sent-answers schema n (before ++ w ∷ []) ws)
 
--- as many replies to a request were sent as lines answer it
+-- the number of replies to a request that were sent is the number of lines that answer it
 pub replies-answered : (schema : Schema) (n : ℤ) (own : List What) → replies_to n (sent schema own) ≡ how_many (is_number n) (answered own)
 replies-answered schema n own = sent-answers schema n [] own
 
--- a request that a line answers, and that is answered once in all, was not answered before
+-- a request that a line answers, and that is answered once in total, was not answered before
 pub first-answer : (own rest : List What) (w : What) (n : ℤ) → number_answered w ≡ Some n → how_many (is_number n) (answered (own ++ w ∷ rest)) ≤ 1 → has (answered own) n ≡ false
 first-answer own rest w n is once =
     let all = ap (how_many (is_number n)) (filter_map-append number_answered own (w ∷ rest)) ∙ many-append (is_number n) (answered own) (answered (w ∷ rest)) in
@@ -113,7 +114,7 @@ said-first : (end : Side) (w : What) (ls : List Line) → said_by end (line_of e
 said-first Parent w ls = refl
 said-first Child w ls = refl
 
--- what was delivered is delivered still
+-- what was delivered is still delivered after more lines
 pub delivered-more : (own more : List What) (p : PacketKind) → has_packet (delivered own) p ≡ true → has_packet (delivered (own ++ more)) p ≡ true
 delivered-more own more p h =
     ap (λ (ps : List PacketKind). has_packet ps p) (filter_map-append delivery own more)
@@ -137,17 +138,17 @@ module _ (schema : Schema) (lines : List Line) (prefix : Prefix schema lines) (e
   first-true true h = refl
   first-true false h = cc
 
-  leaves-delivered : (front behind : List Line) (w : What) → lines ≡ front ++ line_of end w ∷ behind → (n : ℤ) → has (gone (w ∷ [])) n ≡ true → has_packet (delivered (said_by end front)) (kind.Request n) ≡ true
-  leaves-delivered front behind (what.Take m route number values) at n h =
+  leaves-delivered : (front following : List Line) (w : What) → lines ≡ front ++ line_of end w ∷ following → (n : ℤ) → has (gone (w ∷ [])) n ≡ true → has_packet (delivered (said_by end front)) (kind.Request n) ≡ true
+  leaves-delivered front following (what.Take m route number values) at n h =
       let same : m ≡ n = (Decides-int_eq m n).0 (first-true (int_eq m n) h) in
-      ap (λ (k : ℤ). has_packet (delivered (said_by end front)) (kind.Request k)) (sym same) ∙ (prefix.takes end m route number values front behind at).0.delivered
-  leaves-delivered front behind (what.Drop m route number id) at n h =
+      ap (λ (k : ℤ). has_packet (delivered (said_by end front)) (kind.Request k)) (sym same) ∙ (prefix.takes end m route number values front following at).0.delivered
+  leaves-delivered front following (what.Drop m route number id) at n h =
       let same : m ≡ n = (Decides-int_eq m n).0 (first-true (int_eq m n) h) in
-      ap (λ (k : ℤ). has_packet (delivered (said_by end front)) (kind.Request k)) (sym same) ∙ (prefix.drops end m route number id front behind at).0.delivered
-  leaves-delivered front behind _ at n h = cc
+      ap (λ (k : ℤ). has_packet (delivered (said_by end front)) (kind.Request k)) (sym same) ∙ (prefix.drops end m route number id front following at).0.delivered
+  leaves-delivered front following _ at n h = cc
 
-  left-step : (front : List Line) (line : Line) (behind : List Line) → lines ≡ front ++ line ∷ behind → LeftWasDelivered front → LeftWasDelivered (front ++ line ∷ [])
-  left-step front line behind at h n = by (own-or-other end front line)
+  left-step : (front : List Line) (line : Line) (following : List Line) → lines ≡ front ++ line ∷ following → LeftWasDelivered front → LeftWasDelivered (front ++ line ∷ [])
+  left-step front line following at h n = by (own-or-other end front line)
     where
       own : List What
       own = said_by end front
@@ -157,7 +158,7 @@ module _ (schema : Schema) (lines : List Line) (prefix : Prefix schema lines) (e
         where
           from : (has (gone (said_by end front)) n ≡ true) ⊎ (has (gone (line.what ∷ [])) n ≡ true) → has_packet (delivered (said_by end front ++ line.what ∷ [])) (kind.Request n) ≡ true
           from (inl k) = delivered-more (said_by end front) (line.what ∷ []) (kind.Request n) (h n k)
-          from (inr k) = delivered-more (said_by end front) (line.what ∷ []) (kind.Request n) (leaves-delivered front behind line.what (at ∙ ap (λ (l : Line). front ++ l ∷ behind) same) n k)
+          from (inr k) = delivered-more (said_by end front) (line.what ∷ []) (kind.Request n) (leaves-delivered front following line.what (at ∙ ap (λ (l : Line). front ++ l ∷ following) same) n k)
 
       by : ((said_by end (front ++ line ∷ []) ≡ said_by end front ++ line.what ∷ []) × (line ≡ line_of end line.what)) ⊎ (said_by end (front ++ line ∷ []) ≡ said_by end front) → has (gone (said_by end (front ++ line ∷ []))) n ≡ true → has_packet (delivered (said_by end (front ++ line ∷ []))) (kind.Request n) ≡ true
       by (inl (is, same)) left = subst (λ (ws : List What). has_packet (delivered ws) (kind.Request n) ≡ true) (sym is) (said-then is same (subst (λ (ws : List What). has (gone ws) n ≡ true) is left))
@@ -165,16 +166,16 @@ module _ (schema : Schema) (lines : List Line) (prefix : Prefix schema lines) (e
 
   module _ (once : (n : ℤ) → how_many (is_packet (kind.Request n)) (delivered (said_by end lines)) ≤ 1) where
     -- a request that was delivered is not delivered again
-    not-again : (front behind : List Line) (n : ℤ) → lines ≡ front ++ behind → (rest : List What) → said_by end behind ≡ rest → has_packet (delivered (said_by end front)) (kind.Request n) ≡ true → 1 ≤ how_many (is_packet (kind.Request n)) (delivered rest) → ⊥
-    not-again front behind n at rest is before again =
-        let whole : said_by end lines ≡ said_by end front ++ rest = ap (said_by end) at ∙ (filter_map-append _ front behind ∙ ap (λ (ws : List What). said_by end front ++ ws) is) in
+    not-again : (front following : List Line) (n : ℤ) → lines ≡ front ++ following → (rest : List What) → said_by end following ≡ rest → has_packet (delivered (said_by end front)) (kind.Request n) ≡ true → 1 ≤ how_many (is_packet (kind.Request n)) (delivered rest) → ⊥
+    not-again front following n at rest is before again =
+        let whole : said_by end lines ≡ said_by end front ++ rest = ap (said_by end) at ∙ (filter_map-append _ front following ∙ ap (λ (ws : List What). said_by end front ++ ws) is) in
         let count = ap (λ (ws : List What). how_many (is_packet (kind.Request n)) (delivered ws)) whole ∙ (ap (how_many (is_packet (kind.Request n))) (filter_map-append delivery (said_by end front) rest) ∙ many-append (is_packet (kind.Request n)) (delivered (said_by end front)) (delivered rest)) in
         let first = any-some (is_packet (kind.Request n)) (delivered (said_by end front)) before in
         let all = once n in
         absurd (omega (arith, count, first, all, again))
 
-    last-step : (front : List Line) (line : Line) (behind : List Line) → lines ≡ front ++ line ∷ behind → LeftWasDelivered front → LastHasNotLeft front → LastHasNotLeft (front ++ line ∷ [])
-    last-step front line behind at left h n = by (own-or-other end front line)
+    last-step : (front : List Line) (line : Line) (following : List Line) → lines ≡ front ++ line ∷ following → LeftWasDelivered front → LastHasNotLeft front → LastHasNotLeft (front ++ line ∷ [])
+    last-step front line following at left h n = by (own-or-other end front line)
       where
         event-case : (w : What) → line ≡ line_of end w → (b : Bool) → is_event w ≡ b → (if b then Some w else last_event (said_by end front)) ≡ Some (what.DeliverRequest n) → has (gone (said_by end front ++ w ∷ [])) n ≡ false
         event-case w same true is e = from (has (gone (said_by end front)) n) refl
@@ -185,12 +186,12 @@ module _ (schema : Schema) (lines : List Line) (prefix : Prefix schema lines) (e
             stays : has (gone (said_by end front ++ w ∷ [])) n ≡ has (gone (said_by end front)) n || false
             stays = has-append number_gone (said_by end front) (w ∷ []) n ∙ ap (λ (v : What). has (gone (said_by end front)) n || has (gone (v ∷ [])) n) this
 
-            again : 1 ≤ how_many (is_packet (kind.Request n)) (delivered (w ∷ said_by end behind))
-            again = any-some (is_packet (kind.Request n)) (delivered (w ∷ said_by end behind)) (ap (λ (v : What). has_packet (delivered (v ∷ said_by end behind)) (kind.Request n)) this ∙ or_left (int_eq n n) (has_packet (delivered (said_by end behind)) (kind.Request n)) (int-same n))
+            again : 1 ≤ how_many (is_packet (kind.Request n)) (delivered (w ∷ said_by end following))
+            again = any-some (is_packet (kind.Request n)) (delivered (w ∷ said_by end following)) (ap (λ (v : What). has_packet (delivered (v ∷ said_by end following)) (kind.Request n)) this ∙ or_left (int_eq n n) (has_packet (delivered (said_by end following)) (kind.Request n)) (int-same n))
 
             from : (c : Bool) → has (gone (said_by end front)) n ≡ c → has (gone (said_by end front ++ w ∷ [])) n ≡ false
             from false k = stays ∙ ap (λ (x : Bool). x || false) k
-            from true k = absurd (not-again front (line ∷ behind) n at (w ∷ said_by end behind) (ap (λ (l : Line). said_by end (l ∷ behind)) same ∙ said-first end w behind) (left n k) again)
+            from true k = absurd (not-again front (line ∷ following) n at (w ∷ said_by end following) (ap (λ (l : Line). said_by end (l ∷ following)) same ∙ said-first end w following) (left n k) again)
         event-case w same false is e =
             has-append number_gone (said_by end front) (w ∷ []) n
             ∙ (ap (λ (o : Option ℤ). has (gone (said_by end front)) n || has (cons_option o []) n) (effect-stays w is) ∙ ap (λ (x : Bool). x || false) (h n e))
@@ -201,6 +202,6 @@ module _ (schema : Schema) (lines : List Line) (prefix : Prefix schema lines) (e
             (event-case line.what same (is_event line.what) refl (sym (last-add is_event (said_by end front) line.what) ∙ (ap last_event (sym is) ∙ e)))
         by (inr is) e = subst (λ (ws : List What). has (gone ws) n ≡ false) (sym is) (h n (ap last_event (sym is) ∙ e))
 
-    pub last-not-left : (before behind : List Line) → lines ≡ before ++ behind → LastHasNotLeft before
-    last-not-left before behind at =
-        (through lines (λ front. LeftWasDelivered front × LastHasNotLeft front) ((λ n k. cc), λ n k. cc) (λ front line later is p. (left-step front line later is p.0, last-step front line later is p.0 p.1)) before behind at).1
+    pub last-not-left : (before following : List Line) → lines ≡ before ++ following → LastHasNotLeft before
+    last-not-left before following at =
+        (through lines (λ front. LeftWasDelivered front × LastHasNotLeft front) ((λ n k. cc), λ n k. cc) (λ front line later is p. (left-step front line later is p.0, last-step front line later is p.0 p.1)) before following at).1

@@ -38,7 +38,7 @@ pub record IsSend (schema : Schema) (e : End) (ev : Event) (w : What) (q : Handl
   pub first : w ≡ sends.send_line row (sends.request_of e row q.route values) values
   pub found : message_of schema q.number ≡ Some row
 
--- Only a send says so
+-- Only a send has such a line
 
 abbrev is_send : Event → Bool
 is_send (event.send route number vs name) = true

@@ -1,4 +1,4 @@
--- A reply that is taken settles its promise where that is pending, and does nothing else.
+-- A reply that is taken settles its promise if that is pending, and does nothing else.
 use Rattle.std.proofs.Common.{◌≡◌, ◌||◌, ◌&&◌, not, ◌+◌, ◌==◌, ℤ, Bool, true, false, int_eq, IsTrue, List, [], ◌∷◌, ◌++◌, Some, refl, sym, ap, subst, ◌∙◌}
 use Rattle.std.specs.List.{list_any}
 use Rattle.ipdl_base.specs.declared.kinds.Level.{Level}
@@ -44,13 +44,13 @@ use Rattle.order_statements.proofs.Places.{EventIn}
 use Rattle.order_statements.proofs.TakenRequests.{is_take}
 use Rattle.order_statements.proofs.Tells.{EventsAreTold, TellingStep, effects-are}
 
--- Only a take says so
+-- Only a take has such a line
 
 take-says : (ev : Event) (n : ℤ) → IsLineOf ev (what.TakeReply n) → is_take ev ≡ true
 take-says event.take n h = refl
 take-says _ n h = absurd h
 
--- The reply that a line says is taken: the item that the end takes next.
+-- The reply that a line shows as taken: the item that the end takes next.
 record TakenReply (schema : Schema) (e : End) (n : ℤ) (promises : List Promised) : Type 0 where
   m : Message
   sync : Bool
@@ -76,7 +76,7 @@ numbered-promise m (p ∷ promises) h =
     by true c h rec = refl
     by false c h rec = rec h
 
-module _ (schema : Schema) {end : Side} {n : ℤ} {before behind : List Line} (i : EventIn (TellingStep schema end) end (what.TakeReply n) before behind) where
+module _ (schema : Schema) {end : Side} {n : ℤ} {before following : List Line} (i : EventIn (TellingStep schema end) end (what.TakeReply n) before following) where
   abbrev promises : List Promised
   promises = promised_in (requests_of (sent schema (said_by end before)))
 
@@ -116,18 +116,18 @@ settles-number n (Resolved vs) = refl
 settles-number n (Rejected reason) = refl
 
 module _ (schema : Schema) (lines : List Line) (told : EventsAreTold schema lines) where
-  pub replies-settle : (end : Side) (n : ℤ) (before behind : List Line) → lines ≡ before ++ line_of end (what.TakeReply n) ∷ behind → has (settled (said_by end before)) n ≡ false
-      → (w : What) × (number_settled w ≡ Some n) × HasEffects end (w ∷ []) behind
-  replies-settle end n before behind at pending =
-      let i = told end (what.TakeReply n) before behind refl at in
+  pub replies-settle : (end : Side) (n : ℤ) (before following : List Line) → lines ≡ before ++ line_of end (what.TakeReply n) ∷ following → has (settled (said_by end before)) n ≡ false
+      → (w : What) × (number_settled w ≡ Some n) × HasEffects end (w ∷ []) following
+  replies-settle end n before following at pending =
+      let i = told end (what.TakeReply n) before following refl at in
       let r = taken-reply schema i in
       let outcome : Outcome = reply_outcome schema i.by.e r.row r.given in
       let h = replies_settle.settles schema i.by.e i.by.link r.m r.sync r.level r.row r.given i.output r.next r.body r.found (awaited-is schema i r false pending) (take-event schema i) in
-      (settle_line r.m.seq outcome, settles-number r.m.seq outcome ∙ ap (λ (m : ℤ). Some m) (sym r.seq_is), subst (λ (ws : List What). HasEffects end ws behind) (effects-are schema i (what.TakeReply r.m.seq) (settle_line r.m.seq outcome ∷ []) h.0.said) i.has)
+      (settle_line r.m.seq outcome, settles-number r.m.seq outcome ∙ ap (λ (m : ℤ). Some m) (sym r.seq_is), subst (λ (ws : List What). HasEffects end ws following) (effects-are schema i (what.TakeReply r.m.seq) (settle_line r.m.seq outcome ∷ []) h.0.said) i.has)
 
-  pub replies-late : (end : Side) (n : ℤ) (before behind : List Line) → lines ≡ before ++ line_of end (what.TakeReply n) ∷ behind → IsTrue (has (settled (said_by end before)) n) → HasEffects end [] behind
-  replies-late end n before behind at done =
-      let i = told end (what.TakeReply n) before behind refl at in
+  pub replies-late : (end : Side) (n : ℤ) (before following : List Line) → lines ≡ before ++ line_of end (what.TakeReply n) ∷ following → IsTrue (has (settled (said_by end before)) n) → HasEffects end [] following
+  replies-late end n before following at done =
+      let i = told end (what.TakeReply n) before following refl at in
       let r = taken-reply schema i in
       let h = replies_settle.late schema i.by.e i.by.link r.m r.sync r.level r.given i.output r.next r.body (awaited-is schema i r true done) (take-event schema i) in
-      subst (λ (ws : List What). HasEffects end ws behind) (effects-are schema i (what.TakeReply r.m.seq) [] h.0.said) i.has
+      subst (λ (ws : List What). HasEffects end ws following) (effects-are schema i (what.TakeReply r.m.seq) [] h.0.said) i.has

@@ -27,7 +27,7 @@ use Rattle.channel_model.specs.Steps.{step}
 use Rattle.channel_model.proofs.StepParts.{steps_are_made_of_parts}
 use Rattle.law_statements.specs.Said.{line_of}
 
--- A step that says these lines is made of parts of the end's own, or is the delivery of a packet to an open end.
+-- A step that prints these lines is made of parts of the end's own, or is the delivery of a packet to an open end.
 pub data MadeOf (schema : Schema) (e : End) (output : Output) (ws : List What) : Type 0 where
   of_own : {q : Phase} → OwnParts schema e ws output.packets output.end q → MadeOf schema e output ws
   of_delivery : {q : Phase} (packet : Packet) → is_open e.state ≡ true → DeliveryPart schema packet e ws output.packets output.end q → MadeOf schema e output ws
@@ -61,7 +61,7 @@ from-parts schema e link event.flush output end ws at m = from-own schema e outp
 pub made-of : (schema : Schema) (e : End) (link : List Packet) (ev : Event) (output : Output) → step schema e link ev ≡ Some output → (end : Side) (ws : List What) → output.lines ≡ map (line_of end) ws → MadeOf schema e output ws
 made-of schema e link ev output is end ws at = from-parts schema e link ev output end ws at (steps_are_made_of_parts schema e link ev output is)
 
--- Later parts say nothing where nothing is to follow
+-- Later parts print nothing where nothing more will follow
 
 silent-part : {p q : Phase} {e f : End} {ws : List What} {ps : List Packet} → LaterPart p e ws ps f q → p.renames ≡ false → IsOver p → (ws ≡ []) × (q.renames ≡ false) × IsOver q
 silent-part (parts.unnames name may silent) renames over = let k : true ≡ false = sym may ∙ renames in cc

@@ -32,7 +32,7 @@ use Rattle.order_laws.proofs.DueEffects.{due_answers_are_given}
 use Rattle.order_laws.proofs.Takes.{item-told, step-taken}
 use Rattle.order_statements.proofs.FirstLines.{IsLineOf, first-is, line-of-event}
 
--- The request that a line says is taken: the item that the end takes next, which is not dropped.
+-- The request that a line shows as taken: the item that the end takes next, which is not dropped.
 pub record TakenRequest (schema : Schema) (e : End) (ev : Event) (n route : ℤ) (number : ℕ) : Type 0 where
   pub m : Message
   pub row : MessageRow
@@ -44,7 +44,7 @@ pub record TakenRequest (schema : Schema) (e : End) (ev : Event) (n route : ℤ)
   pub route_is : route ≡ m.route
   pub number_is : number ≡ m.number
 
--- Only a take says so
+-- Only a take has such a line
 
 abbrev pub is_take : Event → Bool
 is_take event.take = true

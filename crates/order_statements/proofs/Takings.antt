@@ -1,4 +1,4 @@
--- A line that says that a packet is taken begins a take of an item that shows it.
+-- A line that shows that a packet is taken begins a take of an item that shows this packet.
 use Rattle.std.proofs.Common.{◌≡◌, ℕ, false, IsTrue, List, ◌∷◌, ◌++◌, map, Some, refl, sym, ap, subst, ◌∙◌}
 use Rattle.ipdl_base.specs.declared.kinds.Side.{Side}
 use Rattle.ipdl_base.specs.declared.line.Line.{Line}
@@ -11,7 +11,7 @@ use Rattle.ipdl_base.specs.Lines.{is_effect}
 use Rattle.ipdl_base.specs.Sound.{IsSound}
 use Rattle.pending_queue.specs.declared.item.Item.{Item}
 use Rattle.pending_queue.specs.declared.item.Item.TheVariants as item
-use Rattle.pending_queue.specs.Holding.{arrival_of, arrival_of_body}
+use Rattle.pending_queue.specs.DeferralContext.{arrival_of, arrival_of_body}
 use Rattle.history_reading.specs.declared.parts.PacketKind.{PacketKind}
 use Rattle.history_reading.specs.declared.parts.PacketKind.TheVariants as seen
 use Rattle.channel_model.specs.Ends.{World, end_of, link_to}
@@ -79,7 +79,7 @@ taken-shows (item.Message m sync level) w packet h e = by m.body w h e
     by Goodbye what.ShutNormal h e = cc e
     by Goodbye _ h e = absurd h
 
--- and is no farewell where the end does not shut
+-- and the item is no farewell if the end does not shut
 pub taken-stays : (x : Item) (w : What) → IsTakeOf x w → is_shut w ≡ false → IsNoFarewell (arrival_of x)
 taken-stays item.Broken what.ShutAbnormal h s = cc
 taken-stays item.Broken _ h s = absurd h
@@ -103,10 +103,10 @@ pub record TakenAfter (schema : Schema) (top : ℕ) (end : Side) (w : What) (bef
   pub effects : List What
   pub lines : output.lines ≡ map (line_of end) (w ∷ effects)
 
-pub taken-after : (schema : Schema) → IsSound schema → (top : ℕ) (moves : List Move) (end : Side) (w : What) (packet : PacketKind) (before behind : List Line) → history_of schema top moves ≡ before ++ line_of end w ∷ behind → packet_taken w ≡ Some packet → TakenAfter schema top end w before
-taken-after schema sound top moves end w packet before behind e is = by (event-at schema sound top moves end w before behind (taking-event w packet is) e)
+pub taken-after : (schema : Schema) → IsSound schema → (top : ℕ) (moves : List Move) (end : Side) (w : What) (packet : PacketKind) (before following : List Line) → history_of schema top moves ≡ before ++ line_of end w ∷ following → packet_taken w ≡ Some packet → TakenAfter schema top end w before
+taken-after schema sound top moves end w packet before following e is = by (event-at schema sound top moves end w before following (taking-event w packet is) e)
   where
-    by : EventIn (MoveAt schema top moves end) end w before behind → TakenAfter schema top end w before
+    by : EventIn (MoveAt schema top moves end) end w before following → TakenAfter schema top end w before
     by at =
         let m : MoveAt schema top moves end before at.output = at.by in
         let world : World = world_of schema top m.front in

@@ -1,4 +1,4 @@
--- What the lines of an end tell of it between its steps: in every legal history, and in every run of one end by itself.
+-- What the lines of an end show of it between its steps: in every legal history, and in every run of one end.
 use Rattle.std.proofs.Common.{◌≡◌, ℕ, ℤ, Bool, true, false, not, ◌&&◌, ◌||◌, cond, int_eq, find, List, [], ◌∷◌, ◌++◌, filter_map, map, reverse, Option, Some, None, refl, sym, ap, subst, ◌∙◌}
 use Rattle.std.specs.List.{AllByRecursion, cons_option, list_any, slice_get}
 use Rattle.std.specs.Option.{option_map_or}
@@ -57,16 +57,17 @@ use Rattle.alone_laws.proofs.AloneSteps.{whats-same}
 use Rattle.order_statements.proofs.ArrivedReplies.{ItemIsPromised, RepliesArePromised, replies-alone, replies-promised}
 use Rattle.order_statements.proofs.Places.{EventIn, MoveAt, StepAt, event-alone, event-at, run-after}
 
--- What the lines of an end tell of it: its state, who was built and lives, its stack, and its promises; and what is read of these lines, for more.
+-- What the lines of an end show of it: its state, which actors were built and live, its stack, and its promises; and
+-- what is read of these lines, for more.
 pub record EndTells (schema : Schema) (e : End) (end : Side) (lines : List Line) : Type 0 where
   pub side_is : e.side ≡ end
   pub state : state_of (said_by end lines) ≡ e.state
-  -- who was built and has not fallen, in order; and so whether an actor lives
+  -- the actors that were built and have not fallen, in order; and so whether an actor lives
   pub living : standing (fallen (said_by end lines)) (built (said_by end lines)) ≡ map shown_actor e.actors
   pub alive : (id : ℤ) → lives (said_by end lines) id ≡ tree.lives id e.actors
-  -- those that live are a tree, and all that were built have ids that are taken, none twice
+  -- the actors that live are a tree, and all that were built have ids that are taken, none twice
   pub ids : HasIds schema [] e (built (said_by end lines))
-  -- frames, but for the places of their lines
+  -- frames, except for the places of their lines
   pub frames : map placeless (stack schema end lines) ≡ map shown_entry e.stack
   -- the promises are those of the requests that were sent, and one is awaited until it is settled
   pub promises : map promised_entry e.promises ≡ promised_in (requests_of (sent schema (said_by end lines)))
@@ -75,10 +76,10 @@ pub record EndTells (schema : Schema) (e : End) (end : Side) (lines : List Line)
   pub actors : ReadsActors schema e (end_reading_of end (read schema lines))
   pub exchanges : ReadsExchanges schema e (end_reading_of end (read schema lines))
   pub outlined : HasOutline e (outline (end_reading_of end (read schema lines)))
-  -- what the other end has sent, as far as it is known, and what comes of it
+  -- what the other end has sent, as far as it is known, and what belongs to it
   pub theirs : List Note
   pub origins : HasOrigins schema theirs e
-  -- what has arrived and is a reply is to one of these promises
+  -- each reply that has arrived is for one of these promises
   pub replies : AllByRecursion (ItemIsPromised (promised_in (requests_of (sent schema (said_by end lines))))) e.arrived
 
 -- The state
@@ -167,7 +168,7 @@ alone-tells schema sound top side e lines packets run =
 
 -- Steps
 
--- A step of an end, and what its lines tell of it before the step and after it.
+-- A step of an end, and what its lines show of it before the step and after it.
 pub record TellingStep (schema : Schema) (end : Side) (start : List Line) (output : Output) : Type 0 where
   pub e : End
   pub link : List Packet
@@ -223,28 +224,28 @@ alone-step-tells schema sound top side start output s = record {
   tells_after = alone-tells schema sound top side output.end (start ++ output.lines) s.given (run-after s);
 }
 
--- Lines of which each event was printed by a step that they tell of
+-- Lines in which each event was printed by a step, with what the lines show of its end
 abbrev pub EventsAreTold : Schema → List Line → Type 0
-EventsAreTold schema lines = (end : Side) (w : What) (before behind : List Line) → is_effect w ≡ false → lines ≡ before ++ line_of end w ∷ behind → EventIn (TellingStep schema end) end w before behind
+EventsAreTold schema lines = (end : Side) (w : What) (before following : List Line) → is_effect w ≡ false → lines ≡ before ++ line_of end w ∷ following → EventIn (TellingStep schema end) end w before following
 
-pub event-by : {S T : List Line → Output → Type 0} {end : Side} {w : What} {before behind : List Line} → ((start : List Line) (output : Output) → S start output → T start output) → EventIn S end w before behind → EventIn T end w before behind
+pub event-by : {S T : List Line → Output → Type 0} {end : Side} {w : What} {before following : List Line} → ((start : List Line) (output : Output) → S start output → T start output) → EventIn S end w before following → EventIn T end w before following
 event-by {before = before} step i = record { output = i.output; by = step before i.output i.by; effects = i.effects; lines = i.lines; has = i.has }
 
 pub history-events : (schema : Schema) → IsSound schema → (top : ℕ) (moves : List Move) → EventsAreTold schema (history_of schema top moves)
-history-events schema sound top moves end w before behind is at = event-by (move-tells schema sound top moves end) (event-at schema sound top moves end w before behind is at)
+history-events schema sound top moves end w before following is at = event-by (move-tells schema sound top moves end) (event-at schema sound top moves end w before following is at)
 
 pub alone-events : (schema : Schema) → IsSound schema → (top : ℕ) (side : Side) (e : End) (lines : List Line) (packets : List Packet) → RunsAlone schema top side e lines packets → EventsAreTold schema lines
-alone-events schema sound top side e lines packets run end w before behind is at =
-    let here = event-alone schema sound top side e lines packets run end w before behind is at in
+alone-events schema sound top side e lines packets run end w before following is at =
+    let here = event-alone schema sound top side e lines packets run end w before following is at in
     event-by (λ start output s. subst (λ (x : Side). TellingStep schema x start output) (sym here.0) (alone-step-tells schema sound top side start output s)) here.1
 
--- what an end has said after an event and its effects
-pub told-after : (schema : Schema) {end : Side} {w : What} {before behind : List Line} (i : EventIn (TellingStep schema end) end w before behind) → said_by end (before ++ i.output.lines) ≡ said_by end before ++ w ∷ i.effects
+-- what an end has printed after an event and its effects
+pub told-after : (schema : Schema) {end : Side} {w : What} {before following : List Line} (i : EventIn (TellingStep schema end) end w before following) → said_by end (before ++ i.output.lines) ≡ said_by end before ++ w ∷ i.effects
 told-after schema {end} {w} {before} i = ap (λ (ls : List Line). said_by end (before ++ ls)) i.lines ∙ said-more end before (w ∷ i.effects)
 
 rest-same : {x y : What} {xs ys : List What} → x ∷ xs ≡ y ∷ ys → xs ≡ ys
 rest-same e = cc
 
 -- the effects of an event, where all lines of its step are known
-pub effects-are : (schema : Schema) {end : Side} {w : What} {before behind : List Line} (i : EventIn (TellingStep schema end) end w before behind) (first : What) (effects : List What) → i.output.lines ≡ map (line_at i.by.e.side) (first ∷ effects) → i.effects ≡ effects
+pub effects-are : (schema : Schema) {end : Side} {w : What} {before following : List Line} (i : EventIn (TellingStep schema end) end w before following) (first : What) (effects : List What) → i.output.lines ≡ map (line_at i.by.e.side) (first ∷ effects) → i.effects ≡ effects
 effects-are schema {end} {w} i first effects said = rest-same (whats-same end (w ∷ i.effects) (first ∷ effects) (sym i.lines ∙ (said ∙ ap (λ (s : Side). map (line_at s) (first ∷ effects)) i.by.tells.side_is)))

@@ -1,4 +1,4 @@
--- What waits at an end of a run, and what the end defers of it, as its lines and those of the other tell.
+-- What waits at an end of a run, and what the end defers of it, as the lines of both ends show.
 use Rattle.std.proofs.Common.{◌≡◌, ℕ, ℤ, pos, Bool, true, false, List, [], ◌∷◌, map, Option, Some, None, option_map, option_and_then, unwrap_or, refl, sym, ap, subst, ◌∙◌}
 use Rattle.std.specs.List.{AllByRecursion}
 use Rattle.ipdl_base.specs.declared.kinds.Level.{Level}
@@ -20,7 +20,7 @@ use Rattle.nesting_core.specs.Deferral as deferral
 use Rattle.nesting_core.specs.Frames.{head_of}
 use Rattle.pending_queue.specs.declared.item.Item.{Item}
 use Rattle.pending_queue.specs.declared.item.Item.TheVariants as item
-use Rattle.pending_queue.specs.Holding.{arrival_of, arrival_of_body, defers_item}
+use Rattle.pending_queue.specs.DeferralContext.{arrival_of, arrival_of_body, defers_item}
 use Rattle.history_reading.specs.EndReading.{EndReading}
 use Rattle.history_reading.specs.Reading.{Reading, end_reading_of, read}
 use Rattle.history_reading.specs.SentPacket as told
@@ -28,7 +28,8 @@ use Rattle.history_reading.specs.SentPacket.{SentPacket, request_of}
 use Rattle.history_reading.specs.Still as lines
 use Rattle.channel_model.specs.Ends.{End, World, Packet, StackEntry, end_of, link_to}
 use Rattle.channel_model.specs.Events.{Move}
-use Rattle.channel_model.specs.Numbers.{is_sync_row, other, sends}
+use Rattle.ipdl_base.specs.Sides.{other, sends}
+use Rattle.channel_model.specs.Numbers.{is_sync_row}
 use Rattle.channel_model.specs.Outputs.{is_open}
 use Rattle.channel_model.specs.Runs.{history_of}
 use Rattle.channel_model.specs.Sends.{frames_of}
@@ -62,7 +63,6 @@ use Rattle.channel_laws.proofs.WaitMoments.{child-heads, parent-heads}
 use Rattle.wait_laws.specs.SendableWorlds.{BodyArrives, BodyIsSendable, EntryIsSendable, FrameGoes, IsOfRow, IsSendableEnd, IsSendableWorld, IsSentBy, ItemIsSendable}
 use Rattle.wait_laws.proofs.SendableRuns.{sendable_in_every_run}
 use Rattle.law_statements.specs.Packets.{sent}
-use Rattle.law_statements.specs.Said.{other_end}
 use Rattle.law_statements.specs.Stack.{stack}
 use Rattle.order_statements.specs.Order as order
 use Rattle.order_statements.specs.Order.{MayOvertake, request_arrival}
@@ -70,7 +70,7 @@ use Rattle.order_statements.proofs.Overtaking.{IsFromParent, IsNoFarewell, MayAr
 
 -- Ends in a run
 
--- What is known of an end, with what is read of its lines and of those of the other.
+-- What is known of an end, with what is read of its lines and of those of the other end.
 pub record EndKnown (schema : Schema) (top : ℕ) (side : Side) (mine theirs : End) (own others : EndReading) (to_me to_them : List Packet) : Type 0 where
   pub ends : TwoEnds schema mine theirs own others to_me to_them
   pub heads : HasHeads schema (told_notes theirs.side others.sent) mine
@@ -82,7 +82,7 @@ pub record EndKnown (schema : Schema) (top : ℕ) (side : Side) (mine theirs : E
 
 -- at the end of a side
 abbrev pub KnownAt : Schema → ℕ → Side → World → Reading → Type 0
-KnownAt schema top side w r = EndKnown schema top side (end_of side w) (end_of (other side) w) (end_reading_of side r) (end_reading_of (other_end side) r) (link_to side w) (link_to (other side) w)
+KnownAt schema top side w r = EndKnown schema top side (end_of side w) (end_of (other side) w) (end_reading_of side r) (end_reading_of (other side) r) (link_to side w) (link_to (other side) w)
 
 pub known : (schema : Schema) → IsSound schema → (top : ℕ) (moves : List Move) (side : Side) → KnownAt schema top side (world_of schema top moves) (read schema (history_of schema top moves))
 known schema sound top moves side = by side
@@ -133,7 +133,7 @@ known schema sound top moves side = by side
 
 -- Deferral
 
--- where the inner transaction is clear, another in the place of none decides nothing
+-- if the inner transaction is clear, a missing one may be replaced by 0
 clear-same : (side : Side) (level : Option Level) (inner : Option ℤ) (x : Arrival) → InnerIsClear side level inner → defers_arrival side level inner x ≡ defers_arrival side level (Some (unwrap_or inner (pos 0))) x
 clear-same Parent None inner x c = refl
 clear-same Parent (Some w) None x c = absurd c
@@ -169,13 +169,13 @@ module _ (schema : Schema) (sound : IsSound schema) (top : ℕ) (side : Side) (m
   abbrev inner : Option ℤ
   inner = deferral.inner_transaction (frames_of mine)
 
-  -- the head of a request that waits, as lines tell it
+  -- the head of a request that waits, as lines show it
   request-told : (m : Message) (sync : Bool) (l : Level) (vs : Values) → BodyHead schema m sync l (Request vs) → In (body_note schema m (Request vs)) notes → lines.request_head schema others m.seq ≡ Some (record { sync = sync; level = l; seq = m.seq; transaction = m.transaction })
   request-told m sync l vs h i =
       request-head schema theirs.side (is_open theirs.state) theirs.outbox theirs.sent _ others k.ends.comes.sent m.number m.seq (record { sync = sync; level = l; seq = m.seq; transaction = m.transaction }) refl h
       (record { request = message_note schema m vs; sent_it = i; seq_is = refl; transaction_is = refl; number_is = refl })
 
-  -- what deferral looks at of what waits, as lines tell it
+  -- the part of a waiting item that decides deferral, as lines show it
   pub arrival-told : (said : List What) → others.sent ≡ sent schema said → (x : Item) → Waits x → order.arrival_of schema said (item_kind x) ≡ Some (arrival_of x)
   arrival-told said e item.Broken h = refl
   arrival-told said e (item.Message m sync l) h = by m.body h.0 h.1
@@ -204,14 +204,14 @@ module _ (schema : Schema) (sound : IsSound schema) (top : ℕ) (side : Side) (m
       ∙ (ap (λ (l : Option Level). record { side = mine.side; level = l; inner = lines.inner_transaction schema others own.stack }) (awaited-level schema theirs.side (is_open theirs.state) theirs.outbox theirs.sent _ others k.ends.comes.sent own.stack mine.stack k.ends.outlined.stack k.heads.entries)
       ∙ ap (λ (i : Option ℤ). record { side = mine.side; level = level; inner = i }) (inner-alike schema theirs.side (is_open theirs.state) theirs.outbox theirs.sent _ others k.ends.comes.sent own.stack mine.stack k.ends.outlined.stack k.heads.entries))
 
-  -- what waits is deferred as its lines tell
-  pub deferred-alike : (x : Item) → Waits x → lines.defers_packet schema others (lines.deferral_of schema side own others) (item_kind x) ≡ defers_item (take.holding_of mine) x
+  -- what waits is deferred as its lines show
+  pub deferred-alike : (x : Item) → Waits x → lines.defers_packet schema others (lines.deferral_of schema side own others) (item_kind x) ≡ defers_item (take.deferral_context_of mine) x
   deferred-alike x h =
       packet-deferred (lines.deferral_of schema side own others) x h
       ∙ ap (λ (d : lines.DeferralState). lines.defers d (arrival_of x)) deferral-told
       ∙ clear-same mine.side level inner (arrival_of x) k.clear
 
-  -- the parent awaits nothing but calls of level inside_sync
+  -- the parent awaits only calls of level inside_sync
   await-is : MayAwait side level
   await-is = by side k.sendable.entries mine.stack refl
     where
@@ -255,7 +255,7 @@ module _ (schema : Schema) (sound : IsSound schema) (top : ℕ) (side : Side) (m
       by true Not x y = let k : Not ≡ InsideSync = y ∙ row.of_parent (sym x) s.way in cc
       by sync InsideCpow x y = let k : true ≡ false = sym s.way ∙ ap (sends Parent) (at.sound.inside_cpow (sym y)) in cc
 
-  -- what waits is as it may
+  -- what waits is as required
   arrive-is : (x : Item) → Waits x → MayArrive side (arrival_of x)
   arrive-is item.Broken h = broken side
     where
@@ -274,8 +274,8 @@ module _ (schema : Schema) (sound : IsSound schema) (top : ℕ) (side : Side) (m
       by Parent Goodbye h s a = tt
       by Child Goodbye h s a = tt
 
-  -- who is taken may overtake who is deferred
-  pub may-overtake : (x y : Item) → Waits x → Waits y → IsNoFarewell (arrival_of x) → defers_item (take.holding_of mine) x ≡ false → defers_item (take.holding_of mine) y ≡ true → MayOvertake side (arrival_of x) (arrival_of y)
+  -- an item that is taken may overtake one that is deferred
+  pub may-overtake : (x y : Item) → Waits x → Waits y → IsNoFarewell (arrival_of x) → defers_item (take.deferral_context_of mine) x ≡ false → defers_item (take.deferral_context_of mine) y ≡ true → MayOvertake side (arrival_of x) (arrival_of y)
   may-overtake x y hx hy last free deferred =
       overtakes side level (unwrap_or inner (pos 0)) (arrival_of x) (arrival_of y) await-is (arrive-is x hx) (arrive-is y hy) last
       (subst (λ (s : Side). defers_arrival s level (Some (unwrap_or inner (pos 0))) (arrival_of x) ≡ false) k.sendable.side_is free)

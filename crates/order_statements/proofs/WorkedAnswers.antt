@@ -1,4 +1,4 @@
--- Worked answers: a legal history that gives them, and false neighbours, each refused by the clause that it breaks.
+-- Worked answers: a legal history with its answers, and false neighbours, each refused by the clause that it breaks.
 use Rattle.std.proofs.Common.{◌≡◌, ℤ, negsuc, Bool, true, false, List, [], ◌∷◌, ◌++◌, Contains, codes, map, Option, Some, None, refl, sym, ap, subst, arith}
 use Rattle.std.specs.Option.{option_map_or}
 use Rattle.std.proofs.lemmas.Bool.{false≢true}
@@ -33,7 +33,7 @@ by_child what = line_of Child what
 abbrev first : ℤ
 first = negsuc 0
 
--- A handler keeps its resolver under a name, and the name gets something else: the request is answered.
+-- A handler keeps its resolver under a name, and the name gets a new content: the request is answered.
 
 abbrev kept_and_named : List Move
 kept_and_named =
@@ -56,7 +56,8 @@ kept_and_named_lines = refl
 kept_and_named_answers : Answers making (history_of making 0 kept_and_named)
 kept_and_named_answers = answers-hold making making_is_sound 0 kept_and_named
 
--- A request is answered twice, one is answered that was never sent, and one in the event that delivers it.
+-- A request is answered twice, a request is answered that was never sent, and one is answered in the event that
+-- delivers it.
 
 answered_twice : Answers making (taken ++ by_parent (what.Resolve first Nothing) ∷ by_parent (what.Reject first) ∷ []) → ⊥
 answered_twice a = false≢true (sym ((a.answers Parent (what.Reject first) first (taken ++ by_parent (what.Resolve first Nothing) ∷ []) [] refl refl).first))
@@ -116,7 +117,8 @@ handled_call = called ++ by_parent (what.Take first top ask Nothing) ∷ []
 returned_silently : Effects calling (handled_call ++ by_parent (what.Return first) ∷ []) → ⊥
 returned_silently e = let r = (e.returns Parent first (record { seq = first; route = top; number = ask }) [] handled_call [] refl refl).sync refl in no-effects Parent r.0 r.1 r.3
 
--- A handler returns, and its resolver is neither used nor kept nor let go; and a name that held one gets something else.
+-- A handler returns, and its resolver is neither used nor kept nor destroyed; and a name that had a resolver gets a
+-- new content.
 
 lost_silently : Effects making (taken ++ by_parent (what.Return first) ∷ []) → ⊥
 lost_silently e =

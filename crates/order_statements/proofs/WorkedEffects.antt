@@ -1,4 +1,4 @@
--- Worked effects: what an event owes is there in a history, and without it the statement does not hold.
+-- Worked effects: what an event owes is there in a history, and without it the statement is false.
 use Rattle.std.proofs.Common.{◌≡◌, ℕ, pos, true, false, IsTrue, List, [], ◌∷◌, ◌++◌, map, codes, Option, Some, None, refl, sym, subst}
 use Rattle.std.proofs.lemmas.Bool.{true≢false}
 use Rattle.ipdl_base.specs.declared.kinds.Compress.TheVariants as compress
@@ -33,7 +33,7 @@ calls-build =
     sends-build making (line_of side.Parent (what.Call (pos 1) (pos 1) top 2 Nothing) ∷ line_of side.Parent (what.Built (pos 6) 1) ∷ []) (history-events making making_is_sound 0 (parent (event.send top 2 Nothing None) ∷ []))
     side.Parent (what.Call (pos 1) (pos 1) top 2 Nothing) _ 1 [] (line_of side.Parent (what.Built (pos 6) 1) ∷ []) refl refl refl
 
--- a question with an answer, a constructor, and the destructor of what it makes
+-- a question with an answer, and the constructor and the destructor of an actor
 abbrev message : ℕ → Kind → Option (List ParamRow) → MessageRow
 message number kind returns =
     record { number = number; name = codes "M"; direction = direction.Both; semantics = Async; level = level.Not; compress = compress.Plain; kind = kind; params = []; returns = returns; carried = true; lazy = false }

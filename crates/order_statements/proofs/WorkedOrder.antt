@@ -1,4 +1,5 @@
--- The order, worked: a history in which a call of level inside_cpow overtakes one that waits, and lines that are none.
+-- The order, worked: a history in which a call of level inside_cpow overtakes one that waits, and lines that are no
+-- such history.
 use Rattle.std.proofs.Common.{◌≡◌, pos, negsuc, true, false, IsTrue, List, [], ◌∷◌, ◌++◌, None, refl, ap, subst}
 use Rattle.ipdl_base.specs.declared.kinds.Level.TheVariants.{InsideSync, InsideCpow}
 use Rattle.ipdl_base.specs.declared.kinds.Side.TheVariants as side

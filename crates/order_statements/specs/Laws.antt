@@ -1,4 +1,4 @@
--- Every legal history keeps the order, and every event in it gives what it owes.
+-- Every legal history keeps the order, and every event in it has the effects and gives the answers that it owes.
 use Rattle.std.specs.Prelude.{◌≡◌, ℕ, ℤ, true, false, List, ◌++◌}
 use Rattle.ipdl_base.specs.declared.kinds.Side.{Side}
 use Rattle.ipdl_base.specs.declared.line.Line.{Line}
@@ -25,11 +25,11 @@ HistoriesKeepOrder = (schema : Schema) → IsSound schema → (top : ℕ) (moves
 abbrev pub HistoriesGiveWhatIsOwed : Type 0
 HistoriesGiveWhatIsOwed = (schema : Schema) → IsSound schema → (top : ℕ) (moves : List Move) → Owed schema (history_of schema top moves)
 
--- So does every event of one end by itself, whatever is delivered to it, as far as its own effects go.
+-- Every event of one end has the effects that it owes at its own end, whatever is delivered to the end.
 abbrev pub OneEndHasEffects : Type 0
 OneEndHasEffects = (schema : Schema) → IsSound schema → (top : ℕ) (side : Side) (e : End) (lines : List Line) (packets : List Packet) → RunsAlone schema top side e lines packets → Effects schema lines
 
--- In every run an actor that lived and does not live any more never lives again.
+-- In every run an actor that lived and no longer lives never lives again.
 abbrev pub FallenActorsStayFallen : Type 0
 FallenActorsStayFallen =
     (schema : Schema) → IsSound schema → (top : ℕ) (front middle back : List Move) (side : Side) (id : ℤ) → lives id (end_of side (world_of schema top front)).actors ≡ true

@@ -1,4 +1,4 @@
--- The effects of an event, and what messages are, as the lines of a history tell.
+-- The effects of an event, and the properties of messages, by the lines of a history.
 use Rattle.std.specs.Prelude.{◌≡◌, ℕ, ℤ, Bool, true, false, ◌||◌, IsTrue, List, ◌++◌, map, filter_map, Option, Some, None}
 use Rattle.std.specs.List.{list_all}
 use Rattle.std.specs.Option.{option_map_or}
@@ -19,13 +19,13 @@ use Rattle.law_statements.specs.Arrived.{state_of}
 use Rattle.law_statements.specs.Said.{is_moment, line_of}
 
 -- After a place an end prints exactly these effects, and then a moment comes.
-pub record HasEffects (end : Side) (effects : List What) (behind : List Line) : Type 0 where
+pub record HasEffects (end : Side) (effects : List What) (following : List Line) : Type 0 where
   pub later : List Line
-  pub split : behind ≡ map (line_of end) effects ++ later
+  pub split : following ≡ map (line_of end) effects ++ later
   pub are_effects : IsTrue (list_all is_effect effects)
   pub moment : IsTrue (is_moment later)
 
--- the request that a send or a call is of
+-- the request of a send or a call
 abbrev pub request_sent : What → Option HandledRequest
 request_sent (what.Send n route number values) = Some (record { seq = n; route = route; number = number })
 request_sent (what.Call n transaction route number values) = Some (record { seq = n; route = route; number = number })
@@ -48,11 +48,11 @@ protocol_made Delete = None
 abbrev pub constructor_of : Schema → ℕ → Option ℕ
 constructor_of schema number = option_map_or (λ row. protocol_made row.kind) (message_of schema number) None
 
--- whether the request of a message owes a reply: it is sync or makes a promise
+-- whether the request of a message needs a reply: it is sync or makes a promise
 abbrev pub owes_reply : Schema → ℕ → Bool
 owes_reply schema number = is_sync_number schema number || wants_number schema number
 
--- the number of the request that a line answers, and those that an end has answered
+-- the number of the request that a line answers, and the numbers of all requests that an end has answered
 abbrev pub number_answered : What → Option ℤ
 number_answered (what.Resolve n values) = Some n
 number_answered (what.Reject n) = Some n
@@ -63,7 +63,7 @@ number_answered _ = None
 abbrev pub answered : List What → List ℤ
 answered own = filter_map number_answered own
 
--- the number of the request whose resolver is kept, and all such
+-- the number of the request whose resolver a line keeps, and all such numbers
 abbrev pub number_kept : What → Option ℤ
 number_kept (what.Keep n name) = Some n
 number_kept _ = None

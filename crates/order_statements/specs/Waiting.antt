@@ -1,4 +1,4 @@
--- What waits at an end, in order, as its passings tell.
+-- What waits at an end, in order, by its passings.
 use Rattle.std.specs.Prelude.{if◌then◌else◌, List, [], ◌∷◌}
 use Rattle.history_reading.specs.declared.parts.PacketKind.{PacketKind}
 use Rattle.law_statements.specs.Arrived.{Passing, arrives, gives_up, leaves}

@@ -21,7 +21,7 @@ fn shown(yes: bool) -> char {
     if yes { 'y' } else { 'n' }
 }
 
-/// Which laws hold of a history, each `y` or `n`, and behind a blank whether it keeps the order, has the effects and gives
+/// Which laws hold of a history, each `y` or `n`, and after a blank whether it keeps the order, has the effects and gives
 /// the answers that are owed.
 pub fn verdict(alloc: Global, schema: &Schema, history: &History) -> Result<String, AllocError>
     requires { IsSound schema.now }
@@ -37,7 +37,7 @@ pub fn verdict(alloc: Global, schema: &Schema, history: &History) -> Result<Stri
     Ok(verdict)
 }
 
-/// Notes what came out of a row, where it is not what the row wants.
+/// Notes the result of a row, if it differs from the expected one.
 pub fn note(row: &str, found: &str, wanted: &str, wrong: &mut String) -> Result<(), AllocError> {
     if found == wanted {
         Ok(())

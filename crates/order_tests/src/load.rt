@@ -1,4 +1,4 @@
-//! What lies at two ends and on both links, as the lines of a history tell, and what that weighs by the table of
+//! What is at two ends and on both links, by the lines of a history, and its weight by the table of
 //! docs/nesting.md.
 ghost use Rattle.ipdl_base.specs.Sound.{IsSound};
 
@@ -12,7 +12,7 @@ struct Handler {
     owes: bool,
 }
 
-/// What lies at one end, and on the link toward it.
+/// What is at one end, and on the link toward it.
 #[derive(Drop)]
 pub struct EndLoad {
     open: bool,
@@ -204,7 +204,7 @@ fn note(
     Ok(())
 }
 
-/// What lies at both ends and on both links.
+/// What is at both ends and on both links.
 #[derive(Drop)]
 pub struct Load {
     parent: EndLoad,
@@ -212,6 +212,7 @@ pub struct Load {
 }
 
 impl Load {
+    /// Returns a world in which nothing has happened.
     pub fn new(alloc: Global) -> Load {
         Load {
             parent: EndLoad::new(alloc),
@@ -233,7 +234,7 @@ impl Load {
         self.weight().wrapping_add(kept)
     }
 
-    /// Goes on by one line.
+    /// Reads one line.
     pub fn note(&mut self, schema: &Schema, line: &Line) -> Result<(), AllocError>
         requires { IsSound schema.now }
     {

@@ -86,8 +86,8 @@ fn check_word(
     Ok(note(name, found?.as_str(), "yyyyy yyy", wrong)?)
 }
 
-/// Notes the words by which a worked script makes a run that some law or statement does not hold of, and gives how many words
-/// were tried.
+/// Notes the words by which a worked script makes a run that some law or statement does not hold of, and returns the number
+/// of words that were tried.
 fn check(alloc: Global, text: &str, wrong: &mut String) -> Result<u32, Fail> {
     let row = row_of(text).ok_or("a row of another form")?;
     let schema = schema_of(alloc, row.file)?;
@@ -100,7 +100,7 @@ fn check(alloc: Global, text: &str, wrong: &mut String) -> Result<u32, Fail> {
     Ok(count)
 }
 
-/// The runs of which some law or statement does not hold, and how many there are.
+/// Returns the runs of which some law or statement does not hold, and the number of runs.
 fn checked(alloc: Global) -> Result<String, Fail> {
     let mut shown = String::new(alloc);
     let mut count = 0u32;

@@ -1,7 +1,7 @@
 //! Lists of lines that no run has, and that all five laws let pass.
 
 /// Each row: its name, the file of its protocol, the verdicts of the five laws, and those of order, of effects and of
-/// answers; what is false; and then the lines. `====` stands between two rows.
+/// answers; what is false; and then the lines. `====` is between two rows.
 pub const ORDER: &str = "later-first PW.ipdl yyyyy nyy
 of two that the end does not defer the younger is taken
 parent send 1 to 2147483647 PW.Tell(1)
@@ -221,10 +221,10 @@ parent drop -1 at 6 PPage.Get for 6
   answer -1 fault ActorDestroyed
 ";
 
-/// How many rows there are.
+/// The number of rows.
 pub const ORDER_COUNT: &str = "24";
 
-/// Lists of lines that the five laws, order, effects and answers let pass though no run has them: what these say nothing of
+/// Lists of lines that the five laws, order, effects and answers let pass though no run has them: what these leave open
 /// (docs/laws.md). In the same form.
 pub const SILENT: &str = "unfinished PW.ipdl yyyyy yyy
 a run that does not go on: a call was sent and is not delivered
@@ -277,5 +277,5 @@ parent deliver reply 1
   settle 1 resolved (7)
 ";
 
-/// How many rows there are.
+/// The number of rows.
 pub const SILENT_COUNT: &str = "10";

@@ -22,7 +22,7 @@ fn check(alloc: Global, text: &str, wrong: &mut String) -> Result<(), Fail> {
     Ok(note(row.name, found.as_str(), "yyyyy yyy", wrong)?)
 }
 
-/// The runs of which some law or statement does not hold, and how many there are.
+/// Returns the runs of which some law or statement does not hold, and the number of runs.
 fn checked(alloc: Global) -> Result<String, Fail> {
     let mut shown = String::new(alloc);
     let mut count = 0u32;

@@ -5,8 +5,8 @@ use history_of_text::{history_of, schema_of};
 use std::alloc::Global;
 use std::test::Fail;
 
-/// Notes a row whose verdicts are others. It has its name, the file of its protocol and the verdicts; what is false; and then
-/// its lines.
+/// Notes a row with other verdicts. It has its name, the file of its protocol and the verdicts; what is false; and then its
+/// lines.
 fn check(alloc: Global, row: &str, wrong: &mut String) -> Result<(), Fail> {
     let (head, about) = row.split_once("\n").ok_or("a row of one line")?;
     let (name, given) = head.split_once(" ").ok_or("a row without its file")?;
@@ -18,7 +18,7 @@ fn check(alloc: Global, row: &str, wrong: &mut String) -> Result<(), Fail> {
     Ok(note(name, found.as_str(), wanted, wrong)?)
 }
 
-/// The rows of a table whose verdicts are others, with what was found, and how many rows there are.
+/// Returns the rows of a table with other verdicts, with the results, and the number of rows.
 fn checked(alloc: Global, table: &str) -> Result<String, Fail> {
     let mut shown = String::new(alloc);
     let mut count = 0u32;
@@ -30,7 +30,7 @@ fn checked(alloc: Global, table: &str) -> Result<String, Fail> {
     Ok(shown)
 }
 
-/// Lists that are false in one clause, and lists of which no clause says anything.
+/// Lists that are false in one clause, and lists that no clause excludes.
 #[test]
 fn verdicts(rt: HostRuntime) -> Result<(), Fail> {
     let alloc = rt.alloc();

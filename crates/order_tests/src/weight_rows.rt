@@ -14,7 +14,7 @@ refused-in-call 0 6 5 4 10 9 8 8 7 5 4 3 1 0
 reply-under-a-handler 0 6 5 4 9 8 7 4 2 7 6 5 2 1 0
 two-tells 0 5 10 9 6 5 4 1 0";
 
-/// How many rows there are.
+/// The number of rows.
 pub const WEIGHTS_COUNT: &str = "12";
 
 /// The full weights, in which a kept resolver counts 2, of the run that keeps one.

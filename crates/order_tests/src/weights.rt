@@ -60,7 +60,7 @@ fn check(alloc: Global, text: &str, full: bool, wrong: &mut String) -> Result<()
     Ok(note_row(name, found, wanted, wrong)?)
 }
 
-/// The rows whose weights are others, and how many rows there are.
+/// Returns the rows with other weights, and the number of rows.
 fn checked(alloc: Global, table: &str, full: bool) -> Result<String, Fail> {
     let mut shown = String::new(alloc);
     let mut count = 0u32;
@@ -123,7 +123,8 @@ fn are_few_by_themselves(history: &History) -> bool {
     by_themselves <= acts.wrapping_mul(6)
 }
 
-/// How many events of a history change the weights as they may not, and behind a blank the weight that is left.
+/// Returns the number of events of a history that change the weights as they may not, and after a blank the
+/// weight that is left.
 fn misweighed(alloc: Global, schema: &Schema, history: &History) -> Result<String, AllocError>
     requires { IsSound schema.now }
 {
@@ -168,7 +169,7 @@ fn check_run(alloc: Global, text: &str, wrong: &mut String) -> Result<(), Fail> 
     Ok(note_row(row.name, found.as_str(), wanted, wrong)?)
 }
 
-/// The runs in which a weight changes as it may not, and how many runs there are.
+/// Returns the runs in which a weight changes as it may not, and the number of runs.
 fn checked_runs(alloc: Global) -> Result<String, Fail> {
     let mut shown = String::new(alloc);
     let mut count = 0u32;

@@ -24,7 +24,7 @@ module _ {T : Type 0} where
       (λ (x : (pass ≢ port) × (get_elem? views pass ≡ some view)). others pass view x.0 x.1)
       (at_set views port pass w view at)
 
-  -- what a rule says of each pass
+  -- what a rule states of each pass
   abbrev Seen : ℕ → ℕ → List T → List T → ℕ → PassView T → Type 0
   Seen pusher popper pushed popped pass view = PushesAt pusher pushed pass view × PopsAt popper popped pass view
 

@@ -1,4 +1,4 @@
--- The rule of a queue that is in order, and what its passes know of it.
+-- The rule of a queue that is in order, and what its passes know of the queue.
 use Rattle.std.specs.Prelude.{◌≡◌, ℕ, Bool, true, false, List, [], ◌∷◌, ◌++◌}
 use mathlib.Core.Option.{some}
 use lib.ListN.{get_elem?}
@@ -12,14 +12,14 @@ module _ {T : Type 0} where
   abbrev pub first_view : PassView T
   first_view = view_with true true [] []
 
-  -- the views of the two passes that are made of one
+  -- the views of the two passes that a pass is split into
   abbrev pub pushing_part : PassView T → PassView T
   pushing_part view = view_with true false view.pushed []
 
   abbrev pub popping_part : PassView T → PassView T
   popping_part view = view_with false true [] view.popped
 
-  -- the view of a pass that is made of one that pushes and of one that pops, and what the second is left with
+  -- the view of a pass that joins one that pushes and one that pops, and what the second one is left with
   abbrev pub whole : PassView T → PassView T → PassView T
   whole pushing popping = view_with true true pushing.pushed popping.popped
 
@@ -32,15 +32,15 @@ module _ {T : Type 0} where
   abbrev pub with_popped : PassView T → T → PassView T
   with_popped view x = record view { popped = view.popped ++ x ∷ [] }
 
-  -- a pass that may push is this one, and what was pushed with it is all that was
+  -- a pass that may push is this one, and what was pushed with it is all that was pushed
   abbrev pub PushesAt : ℕ → List T → ℕ → PassView T → Type 0
   PushesAt pusher pushed pass view = view.pushes ≡ true → (pass ≡ pusher) × (view.pushed ≡ pushed)
 
   abbrev pub PopsAt : ℕ → List T → ℕ → PassView T → Type 0
   PopsAt popper popped pass view = view.pops ≡ true → (pass ≡ popper) × (view.popped ≡ popped)
 
-  -- What was popped and then what the queue holds is what was pushed. One pass at most may push, and knows all that was
-  -- pushed; and so with pops.
+  -- What was popped, followed by what is in the queue, is what was pushed. At most one pass may push, and it knows all that
+  -- was pushed. The same is true of pops.
   pub record IsInOrder (held : List T) (views : List (PassView T)) : Type 0 where
     pub pusher : ℕ
     pub popper : ℕ
@@ -49,6 +49,6 @@ module _ {T : Type 0} where
     pub order : pushed ≡ popped ++ held
     pub seen : (pass : ℕ) (view : PassView T) → get_elem? views pass ≡ some view → PushesAt pusher pushed pass view × PopsAt popper popped pass view
 
-  -- a pass that may push and pop knows what the queue holds
+  -- a pass that may push and pop knows what is in the queue
   abbrev pub Knows : PassView T → List T → Type 0
   Knows view held = view.pushes ≡ true → view.pops ≡ true → view.pushed ≡ view.popped ++ held

@@ -1,5 +1,5 @@
-//! An unbounded queue that two threads share, which is in order: what was popped, and then what it
-//! holds, is what was pushed (docs/relay.md).
+//! An unbounded queue that two threads share. It is in order: what was popped, followed by what is in
+//! the queue, is what was pushed (docs/relay.md).
 #![tactic(auto)]
 
 mod queue;

@@ -1,12 +1,18 @@
+//! What passes know, the rule of a queue, and the steps on it.
+
 use crossbeam_queue::protocol::{Join, Lesson, Outcome, Protocol, Split};
 use std::collections::LinkedList;
 
 /// What a pass knows: whether it may push and pop, and what was pushed and popped with it, the oldest
-/// first. No value of it is made.
+/// first. No value of this type is made.
 pub struct PassView<T> {
+    /// Whether the pass may push.
     pub pushes: bool,
+    /// Whether the pass may pop.
     pub pops: bool,
+    /// What was pushed with the pass, the oldest first.
     pub pushed: LinkedList<T>,
+    /// What was popped with the pass, the oldest first.
     pub popped: LinkedList<T>,
 }
 
@@ -21,7 +27,7 @@ impl<T> Protocol<T, PassView<T>> for InOrder {
     ghost first = { first_view };
 }
 
-/// A pass is made two: one that pushes, and one that pops.
+/// Splits a pass into one that pushes and one that pops.
 pub struct Parting;
 
 impl<T> Split<PassView<T>> for Parting {
@@ -32,7 +38,7 @@ impl<T> Split<PassView<T>> for Parting {
     ghost right = { popping_part };
 }
 
-/// A pass that pushes and one that pops are made one again.
+/// Joins a pass that pushes with one that pops.
 pub struct Reunion;
 
 impl<T> Join<PassView<T>> for Reunion {
@@ -43,27 +49,27 @@ impl<T> Join<PassView<T>> for Reunion {
     ghost spent = { spent_view };
 }
 
-/// A value was pushed.
-pub struct Pushed;
+/// Pushes a value.
+pub struct Push;
 
-impl<T> Outcome<T, PassView<T>> for Pushed {
+impl<T> Outcome<T, PassView<T>> for Push {
     ghost use Rattle.std.specs.Prelude.{◌≡◌};
     ghost use Rattle.ordered_queue.specs.InOrder.{with_pushed};
 
     ghost then = { λ v x w. w ≡ with_pushed v x };
 }
 
-/// A value was popped, or the queue held nothing.
-pub struct Popped;
+/// Pops a value, or finds the queue empty.
+pub struct Pop;
 
-impl<T> Outcome<T, PassView<T>> for Popped {
+impl<T> Outcome<T, PassView<T>> for Pop {
     ghost use Rattle.std.specs.Prelude.{◌≡◌};
     ghost use Rattle.ordered_queue.specs.InOrder.{with_popped};
 
     ghost then = { λ v x w. w ≡ with_popped v x };
 }
 
-impl<T> Lesson<T, PassView<T>> for Popped {
+impl<T> Lesson<T, PassView<T>> for Pop {
     ghost use Rattle.ordered_queue.specs.InOrder.{Knows};
 
     ghost fact = { Knows };

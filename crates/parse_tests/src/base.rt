@@ -1,19 +1,21 @@
+//! Tests of files, sinks, builtin types and names.
+
 use super::checks::{check, cut};
 use ipdl_base::{
-    Builtin, Failure, FileBytes, Files, Level, MemoryFiles, MemorySink, Name, Side, Sink,
-    WriteAnswer, defers_request,
+    Builtin, Failure, FileBytes, Files, Level, Name, Side, Sink, WriteAnswer, defers_request,
 };
+use memory_files::{MemoryFiles, MemorySink};
 use std::alloc::{AllocError, Global};
 use std::collections::HashSet;
 use std::test::Fail;
 
-/// A file's name and its bytes.
+/// Returns a file's name and its bytes.
 fn entry(alloc: Global, name: &str, text: &str) -> Result<(String, Vec<u8>), AllocError> {
     let name = String::from_str(alloc, name)?;
     Ok((name, Vec::from_slice(alloc, text.as_bytes())?))
 }
 
-/// Files of which two have one name; the second read fails.
+/// Returns files, two of them with one name. The second read fails.
 fn files(alloc: Global) -> Result<MemoryFiles, AllocError> {
     let mut entries = Vec::new(alloc);
     for (name, text) in [("a", "first"), ("b", ""), ("a", "second")] {
@@ -22,7 +24,7 @@ fn files(alloc: Global) -> Result<MemoryFiles, AllocError> {
     Ok(MemoryFiles::new(entries, vec![in alloc; 2]?))
 }
 
-/// What a read gives, the bytes behind `bytes `.
+/// Returns the result of a read as text. Bytes follow `bytes `.
 fn read_text(alloc: Global, answer: Result<FileBytes, Failure>) -> Result<String, Fail> {
     match answer {
         Ok(FileBytes::Bytes(bytes)) => {
@@ -36,7 +38,7 @@ fn read_text(alloc: Global, answer: Result<FileBytes, Failure>) -> Result<String
     }
 }
 
-/// Reads one after another.
+/// Reads several names, one after another.
 #[test]
 fn reads(rt: HostRuntime) -> Result<(), Fail> {
     let alloc = rt.alloc();
@@ -54,7 +56,7 @@ fn reads(rt: HostRuntime) -> Result<(), Fail> {
     Ok(())
 }
 
-/// Pieces, each with what becomes of it.
+/// Pieces, each with the expected result of writing it.
 const WRITES: &str = "abcdefgh: took 5
 fgh: failed
 fgh: took 3
@@ -70,8 +72,8 @@ fn write_text(alloc: Global, answer: WriteAnswer) -> Result<String, Fail> {
     }
 }
 
-/// Writes one after another to a sink of pieces of 5 bytes with room for 12, of which the second
-/// fails.
+/// Writes pieces one after another to a sink that takes 5 bytes at a time and has room for 12. The
+/// second write fails.
 #[test]
 fn writes(rt: HostRuntime) -> Result<(), Fail> {
     let alloc = rt.alloc();
@@ -86,7 +88,7 @@ fn writes(rt: HostRuntime) -> Result<(), Fail> {
     Ok(())
 }
 
-/// Whether this is the builtin of the name, and is carried as it should be.
+/// Returns whether this is the builtin type of the name, and whether it is carried as it must be.
 fn is_builtin(name: &str, builtin: Builtin) -> bool {
     Builtin::from_name(name.as_bytes()) == Some(builtin)
         && builtin.name() == name.as_bytes()
@@ -126,7 +128,7 @@ fn builtins(rt: HostRuntime) {
     assert!(rt; Builtin::from_name(b"string").is_none());
 }
 
-/// An end that awaits a reply of level `InsideSync` in the transaction 7.
+/// Tests an end that waits for a reply of level `InsideSync` in transaction 7.
 #[test]
 fn deferral(rt: HostRuntime) {
     let rows = [
@@ -145,7 +147,7 @@ fn deferral(rt: HostRuntime) {
     }
 }
 
-/// What a name and its copy are: their text, whether they are equal, and the first one's length.
+/// Returns the text of a name and its copy, whether they are equal, and the length of the first.
 fn copy_text(alloc: Global, name: &Name, copy: &Name) -> Result<String, Fail> {
     let text = str::from_utf8(name.as_slice())?;
     let is_same = name == copy;
@@ -153,7 +155,7 @@ fn copy_text(alloc: Global, name: &Name, copy: &Name) -> Result<String, Fail> {
     Ok(format!(in alloc; "{text} {is_same} {} {is_empty}", name.len())?)
 }
 
-/// Whether a name is new to a set, and its copy is found there then.
+/// Returns whether a name is new to a set, and whether its copy is then found there.
 fn set_text(alloc: Global, name: Name, copy: &Name) -> Result<String, Fail> {
     let mut seen = HashSet::new(alloc);
     let is_new = seen.insert(name)?;
@@ -161,7 +163,8 @@ fn set_text(alloc: Global, name: Name, copy: &Name) -> Result<String, Fail> {
     Ok(format!(in alloc; "{is_new} {is_seen}")?)
 }
 
-/// A name and its copy: what they are, what a set says of them, and the copy's text at last.
+/// Returns the text of a name and its copy, what a set gives for them, and at last the text of the
+/// copy.
 fn name_text(alloc: Global) -> Result<String, Fail> {
     let name = Name::from_slice(alloc, b"word")?;
     let copy = name.copy(alloc)?;

@@ -1,3 +1,5 @@
+//! Tests of copies of messages and types.
+
 use super::checks::check;
 use ipdl_base::{Body, Message, Name, Shape, Value, Values};
 use std::alloc::{AllocError, Global};
@@ -15,7 +17,7 @@ fn one(alloc: Global, value: Value) -> Result<Values, AllocError> {
     before(alloc, value, Values::Nothing)
 }
 
-/// A value of this kind, a union's by this component.
+/// Returns a value of this kind. A union has this component.
 fn value_of(alloc: Global, kind: u32, component: u32) -> Result<Value, AllocError> {
     match kind {
         0 => Ok(Value::Actor(4)),
@@ -31,7 +33,7 @@ fn value_of(alloc: Global, kind: u32, component: u32) -> Result<Value, AllocErro
     }
 }
 
-/// One value of each kind, the union's by this component.
+/// Returns one value of each kind. The union has this component.
 fn each_kind(alloc: Global, component: u32) -> Result<Values, AllocError> {
     let mut values = Values::Nothing;
     for kind in 0..7 {
@@ -55,7 +57,7 @@ fn name_text(name: &Name) -> Result<&str, Fail> {
     Ok(str::from_utf8(name.as_slice())?)
 }
 
-/// A blank, and a value: its kind, and what it holds.
+/// Appends a space and a value: its kind and its content.
 #[cycle(show)]
 fn show_value(value: &Value, out: &mut String) -> Result<(), Fail> {
     match value {
@@ -85,7 +87,7 @@ fn show_value(value: &Value, out: &mut String) -> Result<(), Fail> {
     }
 }
 
-/// The values one after another, and a point behind the last.
+/// Appends values one after another, and a full stop after the last.
 #[cycle(show)]
 fn show_values(values: &Values, out: &mut String) -> Result<(), Fail> {
     match values {
@@ -97,7 +99,7 @@ fn show_values(values: &Values, out: &mut String) -> Result<(), Fail> {
     }
 }
 
-/// The numbers of a message, and its values.
+/// Returns the numbers of a message and its values as text.
 fn message_text(alloc: Global, message: &Message) -> Result<String, Fail> {
     let Message {
         route,
@@ -115,7 +117,7 @@ fn message_text(alloc: Global, message: &Message) -> Result<String, Fail> {
     Ok(out)
 }
 
-/// A copy of a message, and whether it is the same.
+/// Returns a copy of a message as text, and whether it is the same.
 fn copied_message(alloc: Global, message: &Message) -> Result<String, Fail> {
     let copy = message.copy(alloc)?;
     let is_same = copy.same(message);
@@ -123,7 +125,7 @@ fn copied_message(alloc: Global, message: &Message) -> Result<String, Fail> {
     Ok(format!(in alloc; "{is_same} {text}")?)
 }
 
-/// A copy of an array of foreign values, and whether it is the same type.
+/// Returns a copy of an array of foreign values as text, and whether it is the same type.
 fn copied_shape(alloc: Global, shape: &Shape) -> Result<String, Fail> {
     let copy = shape.copy(alloc)?;
     let is_same = copy.same(shape);
@@ -136,7 +138,7 @@ fn copied_shape(alloc: Global, shape: &Shape) -> Result<String, Fail> {
     }
 }
 
-/// A copy is the same message, and one with another component of a union is not.
+/// Tests that a copy is the same message, and that one with another component of a union is not.
 #[test]
 fn messages(rt: HostRuntime) -> Result<(), Fail> {
     let alloc = rt.alloc();
@@ -151,7 +153,7 @@ fn messages(rt: HostRuntime) -> Result<(), Fail> {
     Ok(())
 }
 
-/// A copy is the same type, and another type is not.
+/// Tests that a copy is the same type, and that another type is not.
 #[test]
 fn shapes(rt: HostRuntime) -> Result<(), Fail> {
     let alloc = rt.alloc();

@@ -1,5 +1,5 @@
-//! Tests of what reads a text, and of what lies under it: names, rules, files and sinks, reports, tokens,
-//! trees, and the sections of a sync list.
+//! Tests of the crates that read texts, and of those below them: names, rules, files and sinks,
+//! reports, tokens, trees, and the sections of a sync list.
 #![tactic(auto)]
 
 #[cfg(test)]

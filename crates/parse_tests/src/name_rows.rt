@@ -1,10 +1,12 @@
+//! Tests of names of several lengths.
+
 use super::checks::check;
 use ipdl_base::Name;
 use std::alloc::{AllocError, Global};
 use std::collections::HashSet;
 use std::test::Fail;
 
-/// So many bytes, the letters over and over.
+/// Returns this number of bytes: the letters, repeated.
 fn letters(alloc: Global, count: usize) -> Result<Vec<u8>, AllocError> {
     let alphabet = b"abcdefghijklmnopqrstuvwxyz";
     let mut bytes = Vec::with_capacity(alloc, count)?;
@@ -14,7 +16,7 @@ fn letters(alloc: Global, count: usize) -> Result<Vec<u8>, AllocError> {
     Ok(bytes)
 }
 
-/// A name that takes these bytes five at a time.
+/// Returns a name to which these bytes are added five at a time.
 fn grown(alloc: Global, bytes: &[u8]) -> Result<Name, AllocError> {
     let mut name = Name::empty();
     for piece in bytes.chunks(5) {
@@ -23,7 +25,7 @@ fn grown(alloc: Global, bytes: &[u8]) -> Result<Name, AllocError> {
     Ok(name)
 }
 
-/// Another name of that length, or of one byte beside the name without bytes.
+/// Returns another name of the same length, or of one byte for the empty name.
 fn other(alloc: Global, bytes: &[u8]) -> Result<Name, AllocError> {
     let mut other = Name::empty();
     if let Some((_, front)) = bytes.split_last() {
@@ -33,7 +35,7 @@ fn other(alloc: Global, bytes: &[u8]) -> Result<Name, AllocError> {
     Ok(other)
 }
 
-/// The names of some bytes, each made in its own way, and another name.
+/// Names of the same bytes, each made in its own way, and another name.
 #[derive(Drop)]
 struct Names {
     copied: Name,
@@ -42,7 +44,7 @@ struct Names {
     other: Name,
 }
 
-/// The names of so many bytes.
+/// Returns the names of these bytes.
 fn names_of(alloc: Global, bytes: Vec<u8>) -> Result<Names, AllocError> {
     let grown = grown(alloc, bytes.as_slice())?;
     let other = other(alloc, bytes.as_slice())?;
@@ -55,7 +57,7 @@ fn names_of(alloc: Global, bytes: Vec<u8>) -> Result<Names, AllocError> {
     })
 }
 
-/// Which of the names are equal.
+/// Returns as text which of the names are equal.
 fn compared(alloc: Global, names: &Names) -> Result<String, AllocError> {
     let moved = names.copied == names.moved;
     let grown = names.copied == names.grown;
@@ -63,7 +65,8 @@ fn compared(alloc: Global, names: &Names) -> Result<String, AllocError> {
     format!(in alloc; "{moved} {grown} {other}")
 }
 
-/// Whether each name is in a set that holds the copied one and the other, and how many are.
+/// Returns whether each name is in a set of the copied name and the other name, and the size of the
+/// set.
 fn found_in_set(alloc: Global, names: Names) -> Result<String, Fail> {
     let Names {
         copied,
@@ -80,8 +83,8 @@ fn found_in_set(alloc: Global, names: Names) -> Result<String, Fail> {
     Ok(format!(in alloc; "{first} {without} {moved} {again} {}", seen.len())?)
 }
 
-/// What the names of so many bytes are: the length and the last letters, which are equal, and what a
-/// set says of them.
+/// Returns the results for the names of this length: the length and the last letters, which names
+/// are equal, and what a set gives for them.
 fn row(alloc: Global, count: usize) -> Result<String, Fail> {
     let names = names_of(alloc, letters(alloc, count)?)?;
     let len = names.moved.len();
@@ -92,7 +95,7 @@ fn row(alloc: Global, count: usize) -> Result<String, Fail> {
     Ok(format!(in alloc; "{len} {is_empty} {compared} {found} [{text}]\n")?)
 }
 
-/// Names around the most bytes that a name holds in itself.
+/// The expected results for names around the largest length that a name stores in itself.
 const NAMES: &str = "0 true true true false true false true false 2 []
 1 false true true false true false true false 2 [a]
 21 false true true false true false true false 2 [abcdefghijklmnopqrstu]

@@ -1,11 +1,13 @@
+//! Tests of reports.
+
 use super::checks::{check, cut};
 use findings::{one_report, sort_findings};
 use ipdl_base::{Finding, Findings, Place, Rule};
 use std::alloc::Global;
 use std::test::Fail;
 
-/// Rows, each the findings that are given, as `FILE LINE COLUMN RULE`, a line of `---`, and the report,
-/// with a line of `====` between them.
+/// Rows: the given findings as `FILE LINE COLUMN RULE`, a line of `---`, and the report. A line of
+/// `====` separates rows.
 const ROWS: &str = "
 ---
 ====
@@ -52,7 +54,7 @@ fn finding(line: &str) -> Result<Finding, Fail> {
     Ok(Finding { place, rule })
 }
 
-/// The findings of the lines of a text; an empty one has none.
+/// Returns the findings in the lines of a text. An empty text has no findings.
 fn findings(alloc: Global, text: &str) -> Result<Vec<Finding>, Fail> {
     let mut findings = Vec::new(alloc);
     if text.is_empty() {

@@ -1,8 +1,10 @@
+//! Tests of the texts of rules.
+
 use super::checks::check;
 use ipdl_base::Rule;
 use std::test::Fail;
 
-/// Each rule, and the line that it is written as.
+/// Each rule with the line of its text.
 const RULES: &[(Rule, &str)] = &[
     (Rule::BAD_TOKEN, "A1 bad token"),
     (Rule::SYNTAX_FAULT, "A2 syntax fault"),
@@ -88,6 +90,7 @@ const RULES: &[(Rule, &str)] = &[
     (Rule::SHORT_PAYLOAD, "F7 payload too short"),
     (Rule::LONG_PAYLOAD, "F8 payload too long"),
     (Rule::BAD_VALUE, "F9 bad value"),
+    (Rule::NOT_ONE_FRAME, "F10 not one frame"),
     (Rule::UNSENT_REQUEST, "F11 wrong direction"),
     (Rule::WRONG_NUMBER, "F12 wrong number"),
     (Rule::WRONG_ID, "F13 wrong id"),

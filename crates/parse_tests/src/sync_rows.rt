@@ -1,5 +1,7 @@
-/// Rows, each a text, a line of `---`, and the lines of its answer, with a line of `====` between them:
-/// texts with no section, sections, values, and lines that go on.
+//! The rows of the tests of the text of a sync list.
+
+/// Rows: a text, a line of `---`, and the lines of its answer. A line of `====` separates rows.
+/// They have texts without sections, sections, values, and lines that continue values.
 pub const SYNC_ROWS: &str = "
 ---
 ====

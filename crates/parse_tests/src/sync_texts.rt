@@ -1,10 +1,12 @@
+//! Tests of the text of a sync list.
+
 use super::checks::{check, cut};
 use super::sync_rows::SYNC_ROWS;
 use std::alloc::Global;
 use std::test::Fail;
 use sync_list::{ListFault, Section, one_list, read_list};
 
-/// A section as a line: its number, its names, and whether it is described.
+/// Appends a section as a line: its number, its names, and whether it is described.
 fn push_section(out: &mut String, section: &Section) -> Result<(), Fail> {
     let line = section.line;
     let protocol = str::from_utf8(section.protocol.as_slice())?;
@@ -25,8 +27,8 @@ fn sections_text(alloc: Global, sections: &[Section]) -> Result<String, Fail> {
     Ok(out)
 }
 
-/// The sections that a text spells, one a line with its number, its names and whether it is
-/// described; or its first bad line.
+/// Returns the sections of a text, each as a line with its number, its names and whether it is
+/// described, or the text's first bad line.
 fn shown(alloc: Global, text: &str) -> Result<String, Fail> {
     if text.len() > 1_048_576 {
         return Err("too long".into());

@@ -1,14 +1,16 @@
+//! Tests of which tokens have a tree, and of the place of a fault.
+
 use super::checks::{check, cut};
 use super::syntax_rows::{HEADER_ROWS, PROTOCOL_ROWS};
 use ipdl_base::Place;
-use ipdl_lex::{Lexed, lex};
+use ipdl_lex::{LexedText, lex};
 use ipdl_parse::{SyntaxFault, parse};
 use ipdl_syntax::FileKind;
 use std::alloc::Global;
 use std::test::Fail;
 
-/// What the grammar says of tokens: that they have a tree, or the fault's index and place.
-fn grammar_text(alloc: Global, lexed: &Lexed<'_>, kind: FileKind) -> Result<String, Fail> {
+/// Returns as text that tokens have a tree, or the index and place of the fault.
+fn grammar_text(alloc: Global, lexed: &LexedText<'_>, kind: FileKind) -> Result<String, Fail> {
     match parse(alloc, lexed.tokens.as_slice(), lexed.end, kind).err() {
         None => Ok(String::from_str(alloc, "tree")?),
         Some(SyntaxFault::Fault { index, place }) => {
@@ -19,7 +21,7 @@ fn grammar_text(alloc: Global, lexed: &Lexed<'_>, kind: FileKind) -> Result<Stri
     }
 }
 
-/// What the grammar says of a text.
+/// Returns as text whether a text has a tree, or its fault.
 fn shown(alloc: Global, kind: FileKind, text: &[u8]) -> Result<String, Fail> {
     if text.len() > 1_048_576 {
         return Err("too long".into());
@@ -50,7 +52,7 @@ fn protocol_files(rt: HostRuntime) -> Result<(), Fail> {
     Ok(())
 }
 
-/// A text of as many bytes as a file may have, nearly all of them messages.
+/// Returns a text of the largest size of a file. Nearly all of it is messages.
 fn large_text(alloc: Global) -> Result<Vec<u8>, Fail> {
     let mut text = Vec::new(alloc);
     text.extend_from_slice(b"protocol P { parent: ")?;
@@ -61,7 +63,7 @@ fn large_text(alloc: Global) -> Result<Vec<u8>, Fail> {
     Ok(text)
 }
 
-/// The length of a large text, and what the grammar says of it.
+/// Returns the length of a large text, and whether it has a tree, or its fault.
 fn large_shown(alloc: Global) -> Result<String, Fail> {
     let text = large_text(alloc)?;
     let answer = shown(alloc, FileKind::Protocol, text.as_slice())?;

@@ -1,3 +1,5 @@
+//! The rows of the tests of faults of the grammar.
+
 /// Rows `ANSWER | TEXT` of headers.
 pub const HEADER_ROWS: &str = "tree | 
 0 at 1:1 | protocol P { };
@@ -45,7 +47,7 @@ tree | union U { int; a<b>?; };
 tree | namespace a { namespace a { namespace a { namespace a { namespace a { namespace a { namespace a { namespace a { namespace a { namespace a { namespace a { namespace a { namespace a { namespace a { namespace a { namespace a {  } } } } } } } } } } } } } } } }
 48 at 1:225 | namespace a { namespace a { namespace a { namespace a { namespace a { namespace a { namespace a { namespace a { namespace a { namespace a { namespace a { namespace a { namespace a { namespace a { namespace a { namespace a { namespace a { } } } } } } } } } } } } } } } } } ";
 
-/// Rows `ANSWER | TEXT` of protocols' files.
+/// Rows `ANSWER | TEXT` of protocol files.
 pub const PROTOCOL_ROWS: &str = "tree | protocol P { };
 0 at 1:1 | 
 5 at 1:17 | protocol P { }; protocol Q { };

@@ -1,5 +1,8 @@
-/// Rows, each a text, a line of `---`, and the lines of its answer, with a line of `====` between them:
-/// texts with no token, faults, the longest piece, comments, lines and columns, and a protocol.
+//! The rows of the tests of tokens.
+
+/// Rows: a text, a line of `---`, and the lines of its answer. A line of `====` separates rows.
+/// They have texts without tokens, faults, the longest piece, comments, lines and columns, and a
+/// protocol.
 pub const TOKEN_ROWS: &str = "
 ---
 1:1 end

@@ -1,11 +1,13 @@
+//! Tests of the tokens of a text.
+
 use super::checks::{check, cut};
 use super::token_rows::TOKEN_ROWS;
 use ipdl_base::{Place, Token};
-use ipdl_lex::{LexFault, Lexed, lex};
+use ipdl_lex::{LexFault, LexedText, lex};
 use std::alloc::Global;
 use std::test::Fail;
 
-/// A token as a line.
+/// Appends a token as a line.
 fn push_token(out: &mut String, token: &Token<'_>) -> Result<(), Fail> {
     let kind = token.kind();
     let Place { line, column, .. } = token.place();
@@ -13,8 +15,8 @@ fn push_token(out: &mut String, token: &Token<'_>) -> Result<(), Fail> {
     Ok(writeln!(out, "{line}:{column} {kind:?} {text}")?)
 }
 
-/// The tokens and the end, one a line.
-fn tokens_text(alloc: Global, lexed: &Lexed<'_>) -> Result<String, Fail> {
+/// Returns the tokens and the end, one on each line.
+fn tokens_text(alloc: Global, lexed: &LexedText<'_>) -> Result<String, Fail> {
     let mut out = String::new(alloc);
     for token in lexed.tokens.as_slice() {
         push_token(&mut out, token)?;
@@ -24,7 +26,7 @@ fn tokens_text(alloc: Global, lexed: &Lexed<'_>) -> Result<String, Fail> {
     Ok(out)
 }
 
-/// What the fault is, and where.
+/// Returns a fault and its place as text.
 fn fault_text(alloc: Global, fault: &LexFault) -> Result<String, Fail> {
     let (word, place) = match fault {
         LexFault::BadByte(place) => ("BadByte", place),
@@ -37,7 +39,7 @@ fn fault_text(alloc: Global, fault: &LexFault) -> Result<String, Fail> {
     Ok(format!(in alloc; "{word} at {line}:{column} of {file}\n")?)
 }
 
-/// The tokens of a text and its end, one a line; or its fault.
+/// Returns the tokens of a text and its end, one on each line, or its fault.
 fn shown(alloc: Global, text: &[u8]) -> Result<String, Fail> {
     if text.len() > 1_048_576 {
         return Err("too long".into());
@@ -58,7 +60,7 @@ fn rows(rt: HostRuntime) -> Result<(), Fail> {
     Ok(())
 }
 
-/// A byte that is no text, before an open comment.
+/// Tests a byte that is not text, before an open comment.
 #[test]
 fn bad_byte(rt: HostRuntime) -> Result<(), Fail> {
     let found = shown(rt.alloc(), b"a \x80 /*")?;
@@ -66,7 +68,7 @@ fn bad_byte(rt: HostRuntime) -> Result<(), Fail> {
     Ok(())
 }
 
-/// So many letters, of which this is the first and the last.
+/// Returns this number of bytes: `byte` first and last, and letters between.
 fn enclosed(alloc: Global, byte: u8, len: usize) -> Result<Vec<u8>, Fail> {
     let mut text = vec![in alloc; b'a'; len]?;
     if len < 2 || len > 1_000 {
@@ -77,7 +79,7 @@ fn enclosed(alloc: Global, byte: u8, len: usize) -> Result<Vec<u8>, Fail> {
     Ok(text)
 }
 
-/// Why a text with this first and this last byte, and letters between them, is not one token.
+/// Returns the fault of a text that has this byte first and last, and letters between.
 fn fault_of(alloc: Global, byte: u8, len: usize) -> Result<String, Fail> {
     let text = enclosed(alloc, byte, len)?;
     if text.len() > 1_000 {

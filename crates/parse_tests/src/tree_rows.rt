@@ -1,5 +1,7 @@
-/// Rows of headers, each a text, a line of `---`, and the lines of its tree, with a line of `====` between
-/// them.
+//! The rows of the tests of trees.
+
+/// Rows of headers: a text, a line of `---`, and the lines of its tree. A line of `====` separates
+/// rows.
 pub const HEADER_TREES: &str = "
 ---
 ====
@@ -54,8 +56,8 @@ component nullable a<b>? at 1:29
 component UniquePtr<P at 1:46> at 1:36
 ";
 
-/// Rows of headers whose lists are in text order, whatever stands between, and whose full names have the
-/// namespaces.
+/// Rows of headers whose lists are in text order, whatever is between their items, and whose full
+/// names have the namespaces.
 pub const WHOLE_HEADERS: &str = "struct S { };
 include a;
 using b from \"c\";
@@ -83,7 +85,7 @@ union n::m::C 3:21
 component int at 3:25
 ";
 
-/// Rows of protocols' files.
+/// Rows of protocol files.
 pub const PROTOCOL_TREES: &str = "protocol P { };
 ---
 async protocol P 1:10

@@ -1,7 +1,9 @@
+//! Tests of the trees of files.
+
 use super::checks::{check, cut};
 use super::tree_rows::{HEADER_TREES, PROTOCOL_TREES, WHOLE_HEADERS};
 use ipdl_base::{Direction, Name, Place, Semantics};
-use ipdl_lex::{Lexed, lex};
+use ipdl_lex::{LexedText, lex};
 use ipdl_parse::parse;
 use ipdl_syntax::{
     Attributes, Base, FileKind, IncludeKind, Includes, MessageDecl, NamesAt, Params, ProtocolDecl,
@@ -11,7 +13,7 @@ use std::alloc::{AllocError, Global};
 use std::process::Abort;
 use std::test::Fail;
 
-/// A word, a name and the place of that.
+/// Appends a word, a name and the place of the name.
 fn show_name(
     alloc: Global,
     out: &mut Vec<u8>,
@@ -25,14 +27,14 @@ fn show_name(
     show_place(alloc, out, place)
 }
 
-/// A blank, and a place's line and column.
+/// Appends a space, and a place's line and column.
 fn show_place(alloc: Global, out: &mut Vec<u8>, place: Place) -> Result<(), AllocError> {
     let Place { line, column, .. } = place;
     let text = format!(in alloc; " {line}:{column}")?;
     out.extend_from_slice(text.as_bytes())
 }
 
-/// Each attribute as a line: its name, its place, and its value where it has one.
+/// Appends each attribute as a line: its name, its place, and its value, if it has one.
 fn show_attributes(
     alloc: Global,
     out: &mut Vec<u8>,
@@ -49,7 +51,7 @@ fn show_attributes(
     Ok(())
 }
 
-/// A type, each `UniquePtr` with what stands in it, and behind each type `at` and its place.
+/// Appends a type, each `UniquePtr` with its content, and after each type `at` and its place.
 fn show_type(alloc: Global, out: &mut Vec<u8>, spec: &TypeSpec) -> Result<(), AllocError> {
     if spec.nullable {
         out.extend_from_slice(b"nullable ")?;
@@ -73,7 +75,7 @@ fn show_type(alloc: Global, out: &mut Vec<u8>, spec: &TypeSpec) -> Result<(), Al
     show_place(alloc, out, spec.place)
 }
 
-/// A name, and the argument behind it in `<` and `>`.
+/// Appends a name, and its argument between `<` and `>`, if it has one.
 fn show_named(out: &mut Vec<u8>, name: &Name, inner: Option<&Name>) -> Result<(), AllocError> {
     out.extend_from_slice(name.as_slice())?;
     if let Some(inner) = inner {
@@ -84,7 +86,7 @@ fn show_named(out: &mut Vec<u8>, name: &Name, inner: Option<&Name>) -> Result<()
     Ok(())
 }
 
-/// Each parameter as a line, and its attributes.
+/// Appends each parameter as a line, and its attributes.
 fn show_params(
     alloc: Global,
     out: &mut Vec<u8>,
@@ -101,7 +103,8 @@ fn show_params(
     Ok(())
 }
 
-/// A message: its direction, its semantics and its name, its attributes, its parameters and returns.
+/// Appends a message: its direction, its semantics and its name, its attributes, its parameters and
+/// returns.
 fn show_message(alloc: Global, out: &mut Vec<u8>, message: &MessageDecl) -> Result<(), AllocError> {
     let side: &[u8] = match message.direction {
         Direction::Parent => b"parent ",
@@ -124,7 +127,7 @@ fn show_message(alloc: Global, out: &mut Vec<u8>, message: &MessageDecl) -> Resu
     Ok(())
 }
 
-/// Each name as a line.
+/// Appends each name as a line.
 fn show_names(
     alloc: Global,
     out: &mut Vec<u8>,
@@ -138,7 +141,7 @@ fn show_names(
     Ok(())
 }
 
-/// A protocol with all that stands in it.
+/// Appends a protocol with all of its content.
 fn show_protocol(
     alloc: Global,
     out: &mut Vec<u8>,
@@ -159,7 +162,7 @@ fn show_protocol(
     Ok(())
 }
 
-/// Each include as a line.
+/// Appends each include as a line.
 fn show_includes(alloc: Global, out: &mut Vec<u8>, includes: &Includes) -> Result<(), AllocError> {
     for include in includes.as_slice() {
         let word: &[u8] = match include.kind {
@@ -173,7 +176,7 @@ fn show_includes(alloc: Global, out: &mut Vec<u8>, includes: &Includes) -> Resul
     Ok(())
 }
 
-/// Each using as a line, and its attributes.
+/// Appends each using as a line, and its attributes.
 fn show_usings(alloc: Global, out: &mut Vec<u8>, usings: &Usings) -> Result<(), AllocError> {
     for foreign in usings.as_slice() {
         show_name(alloc, out, b"using", &foreign.full, foreign.place)?;
@@ -183,7 +186,7 @@ fn show_usings(alloc: Global, out: &mut Vec<u8>, usings: &Usings) -> Result<(), 
     Ok(())
 }
 
-/// Each struct, its attributes and its fields.
+/// Appends each struct, its attributes and its fields.
 fn show_structs(alloc: Global, out: &mut Vec<u8>, structs: &StructDecls) -> Result<(), AllocError> {
     for decl in structs.as_slice() {
         show_name(alloc, out, b"struct", &decl.full, decl.place)?;
@@ -194,7 +197,7 @@ fn show_structs(alloc: Global, out: &mut Vec<u8>, structs: &StructDecls) -> Resu
     Ok(())
 }
 
-/// Each union, its attributes and its components.
+/// Appends each union, its attributes and its components.
 fn show_unions(alloc: Global, out: &mut Vec<u8>, unions: &UnionDecls) -> Result<(), AllocError> {
     for decl in unions.as_slice() {
         show_name(alloc, out, b"union", &decl.full, decl.place)?;
@@ -209,7 +212,7 @@ fn show_unions(alloc: Global, out: &mut Vec<u8>, unions: &UnionDecls) -> Result<
     Ok(())
 }
 
-/// A tree as lines, one for each part: includes, usings, structs, unions and the protocol.
+/// Appends a tree as lines, one for each part: includes, usings, structs, unions and the protocol.
 fn show_unit(alloc: Global, out: &mut Vec<u8>, unit: &Unit) -> Result<(), AllocError> {
     show_includes(alloc, out, &unit.includes)?;
     show_usings(alloc, out, &unit.usings)?;
@@ -221,22 +224,22 @@ fn show_unit(alloc: Global, out: &mut Vec<u8>, unit: &Unit) -> Result<(), AllocE
     }
 }
 
-/// A tree as text.
+/// Returns a tree as text.
 fn unit_text(alloc: Global, unit: &Unit) -> Result<String, Fail> {
     let mut out = Vec::new(alloc);
     show_unit(alloc, &mut out, unit)?;
     Ok(String::from_utf8(out)?)
 }
 
-/// The tree of a text's tokens.
-fn tree_text(alloc: Global, lexed: &Lexed<'_>, kind: FileKind) -> Result<String, Fail> {
+/// Returns the tree of a text's tokens as text.
+fn tree_text(alloc: Global, lexed: &LexedText<'_>, kind: FileKind) -> Result<String, Fail> {
     match parse(alloc, lexed.tokens.as_slice(), lexed.end, kind) {
         Ok(unit) => unit_text(alloc, &unit),
         Err(_) => Err("no tree".into()),
     }
 }
 
-/// The tree of a text.
+/// Returns the tree of a text as text.
 fn shown(alloc: Global, kind: FileKind, text: &str) -> Result<String, Fail> {
     if text.len() > 1_048_576 {
         return Err("too long".into());
@@ -247,7 +250,7 @@ fn shown(alloc: Global, kind: FileKind, text: &str) -> Result<String, Fail> {
     }
 }
 
-/// Compares the tree of each row's text with what the row says.
+/// Compares the tree of each row's text with the expected one.
 fn check_rows(rt: &impl Abort, alloc: Global, kind: FileKind, rows: &str) -> Result<(), Fail> {
     for row in rows.split("====\n") {
         let (text, wanted) = cut(row, "\n---\n");

@@ -1,3 +1,4 @@
+//! Tests of trees of actors, and of falls.
 ghost use Rattle.std.specs.Prelude.{◌≡◌, IfOk};
 ghost use Rattle.actor_tree.specs.Fall.{post_order, others};
 
@@ -112,7 +113,7 @@ fn inserted_text(alloc: Global, answer: Result<(), TreeFault>) -> Result<String,
     }
 }
 
-/// Makes a call and says what it answers, behind a blank.
+/// Makes a call and writes its result, after a blank.
 fn answer(alloc: Global, tree: &mut Tree, call: &str) -> Result<String, Fail> {
     let (word, arguments) = cut(call, " ");
     let (id, manager) = cut(arguments, " ");
@@ -149,7 +150,7 @@ fn rows(rt: HostRuntime) -> Result<(), Fail> {
     Ok(())
 }
 
-/// What the laws of falling say of every tree.
+/// The laws of falling, for every tree.
 #[test]
 fn laws(_rt: HostRuntime) {
     leaves_nobody();

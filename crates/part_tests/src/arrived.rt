@@ -1,6 +1,7 @@
+//! Tests of arrived items: compression and deferral.
 use super::checks::{check, cut};
 use ipdl_base::{Body, Compress, Level, Message, Reason, Side, Values};
-use pending_queue::{Holding, Item, Pending, Pushed};
+use pending_queue::{DeferralContext, Item, Pending, PushEffect};
 use std::alloc::Global;
 use std::process::Abort;
 use std::test::Fail;
@@ -34,8 +35,8 @@ push async 4 3/0 all: 0 added
 take nothing: 3
 take nothing: 0";
 
-/// What a parent that awaits a reply of level 1, in the transaction 7, takes first: first the request
-/// of level 2, then the one of its transaction, then what says that the other end is gone.
+/// What a parent takes first that awaits a reply of level 1 in the transaction 7: first the request
+/// of level 2, then the one of its transaction, then the item of the other side's end.
 const A_PARENT_DEFERS: &str = "push async 4 -1/0 plain: 0 added
 push fault 7 1/0 plain: 0 added
 push sync 4 -2/7 plain: 0 added
@@ -104,27 +105,27 @@ fn compress_of(word: &str) -> Compress {
 }
 
 /// What an end awaits: nothing, or in the transaction 7 a reply of level `inside_sync`.
-fn holding_of(word: &str) -> Holding {
+fn deferral_context_of(word: &str) -> DeferralContext {
     let side = if word == "child" {
         Side::Child
     } else {
         Side::Parent
     };
     if word == "nothing" {
-        return Holding {
+        return DeferralContext {
             side,
             level: None,
             transaction: 0,
         };
     }
-    Holding {
+    DeferralContext {
         side,
         level: Some(Level::InsideSync),
         transaction: 7,
     }
 }
 
-/// The number of an item, or 0 where there is none or it has none.
+/// The number of an item, or 0 if there is no item or it has no number.
 fn seq_of(item: Option<&Item>) -> i32 {
     match item {
         Some(Item::Message { message, .. }) => message.seq,
@@ -132,17 +133,17 @@ fn seq_of(item: Option<&Item>) -> i32 {
     }
 }
 
-fn pushed_text(alloc: Global, old: i32, pushed: &Pushed) -> Result<String, Fail> {
+fn pushed_text(alloc: Global, old: i32, pushed: &PushEffect) -> Result<String, Fail> {
     match pushed {
-        Pushed::Added => Ok(format!(in alloc; "{old} added")?),
-        Pushed::Replaced(item) => {
+        PushEffect::Added => Ok(format!(in alloc; "{old} added")?),
+        PushEffect::Replaced(item) => {
             let seq = seq_of(Some(item));
             Ok(format!(in alloc; "{old} replaced {seq}")?)
         }
     }
 }
 
-/// Pushes an item: the number of what it is said to replace, and of what it replaces.
+/// Pushes an item: the number of the item that it would replace, and of the one that it replaces.
 fn push(alloc: Global, pending: &mut Pending, argument: &str) -> Result<String, Fail> {
     let (item, compress) = argument.rsplit_once(" ").unwrap_or((argument, ""));
     let compress = compress_of(compress);
@@ -153,20 +154,20 @@ fn push(alloc: Global, pending: &mut Pending, argument: &str) -> Result<String, 
 }
 
 /// The number of what is taken first, or 0 where nothing is or it has none.
-fn take(pending: &mut Pending, holding: &Holding) -> i32 {
+fn take(pending: &mut Pending, holding: &DeferralContext) -> i32 {
     seq_of(pending.take_first(holding).as_ref())
 }
 
-/// A call whose answer is a number, which is how many items there are where it is no other.
+/// A call whose result is a number, by default the number of items.
 fn number_answer(pending: &mut Pending, word: &str, argument: &str) -> i32 {
     match word {
-        "first" => seq_of(pending.first(&holding_of(argument))),
-        "take" => take(pending, &holding_of(argument)),
+        "first" => seq_of(pending.first(&deferral_context_of(argument))),
+        "take" => take(pending, &deferral_context_of(argument)),
         _ => i32::try_from(pending.len()).unwrap_or(-1),
     }
 }
 
-/// Makes a call and says what it answers.
+/// Makes a call and writes its result.
 fn answer(alloc: Global, pending: &mut Pending, call: &str) -> Result<String, Fail> {
     let (word, argument) = cut(call, " ");
     match word {

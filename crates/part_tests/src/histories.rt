@@ -1,3 +1,4 @@
+//! Tests of histories and of their text.
 ghost use Rattle.std.specs.Prelude.{IfOk};
 ghost use Rattle.ipdl_base.specs.Sound.{IsSound};
 
@@ -39,7 +40,7 @@ fn text_of(alloc: Global, history: &History) -> Result<String, Fail> {
     Ok(String::from_utf8(text)?)
 }
 
-/// How many lines a history has before and after some are written, and its text then.
+/// The number of lines of a history before and after some are written, and its text then.
 fn shown(alloc: Global) -> Result<String, Fail> {
     let mut history = History::new(alloc);
     let before = history.lines().len();

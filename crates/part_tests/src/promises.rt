@@ -1,3 +1,4 @@
+//! Tests of promises.
 use super::checks::{check, cut};
 use ipdl_base::{Reason, Values};
 use promise_table::{Outcome, Promises, Settling};
@@ -60,7 +61,7 @@ fn seq_text(alloc: Global, seq: Option<i32>) -> Result<String, Fail> {
     }
 }
 
-/// Makes a call and says what it answers.
+/// Makes a call and writes its result.
 fn answer(alloc: Global, promises: &mut Promises, call: &str) -> Result<String, Fail> {
     let (word, argument) = cut(call, " ");
     match word {

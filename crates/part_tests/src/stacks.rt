@@ -2,7 +2,7 @@
 
 use super::checks::{check, cut};
 use ipdl_base::{Level, Reason, SendRefusal, Side, Values};
-use nesting_core::{Answer, Head, Popped, SendHead, Stack, StackTop};
+use nesting_core::{Answer, Head, PoppedFrame, SendHead, Stack, StackTop};
 use std::alloc::Global;
 use std::process::Abort;
 use std::test::Fail;
@@ -143,7 +143,7 @@ fn kind_text(head: Head) -> &'static str {
     }
 }
 
-/// A word, a head, and what stands behind it.
+/// A word, a head, and the rest.
 fn head_text(alloc: Global, word: &str, head: Head, end: &str) -> Result<String, Fail> {
     let kind = kind_text(head);
     let Head {
@@ -171,15 +171,20 @@ fn answer_text(answer: &Answer) -> &'static str {
     }
 }
 
-fn popped_text(alloc: Global, popped: Option<Popped>) -> Result<String, Fail> {
+fn popped_text(alloc: Global, popped: Option<PoppedFrame>) -> Result<String, Fail> {
     match popped {
         None => Ok(String::from_str(alloc, "none")?),
-        Some(Popped::Dispatch(head)) => head_text(alloc, "dispatch", head, ""),
-        Some(Popped::Wait(head, answer)) => head_text(alloc, "wait", head, answer_text(&answer)),
+        Some(PoppedFrame::Dispatch(head)) => head_text(alloc, "dispatch", head, ""),
+        Some(PoppedFrame::Wait(head, answer)) => head_text(
+            alloc,
+            "wait",
+            head,
+            answer_text(&answer),
+        ),
     }
 }
 
-/// A refusal, or that there is none.
+/// Returns the word for a refusal, or `none`.
 fn refusal_text(refusal: Option<SendRefusal>) -> &'static str {
     match refusal {
         None => "none",
@@ -243,7 +248,7 @@ fn len_text(alloc: Global, stack: &Stack) -> Result<String, Fail> {
     Ok(format!(in alloc; "{}", stack.len())?)
 }
 
-/// Makes a call and says what it answers.
+/// Makes a call and writes its result.
 fn answer(alloc: Global, stack: &mut Stack, side: Side, call: &str) -> Result<String, Fail> {
     let (word, argument) = cut(call, " ");
     match word {
@@ -331,7 +336,7 @@ fn call_across(sender: &mut Stack, receiver: &mut Stack, seq: i32) {
     }
 }
 
-/// Calls back and forth until the next is refused: how many frames stand at each end, why the child
+/// Calls back and forth until the next is refused: the number of frames at each end, why the child
 /// refuses the next, and whether it still has room for a dispatch.
 fn nest(alloc: Global) -> Result<String, Fail> {
     let mut parent = Stack::new();

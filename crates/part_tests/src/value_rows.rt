@@ -1,6 +1,8 @@
-/// Rows `SHAPE | VALUE | ANSWER`. A type is a word, and behind it what is made of it; what a value is made
-/// of stands behind it, and texts and bytes are pairs of hexadecimal digits. The answer to a value that the
-/// type has is its sizes in the old and the new layout, and its text.
+//! Rows on values and their types.
+
+/// Rows `SHAPE | VALUE | ANSWER`. A type is a word, and after it the parts of it; the parts of a value
+/// come after it, and texts and bytes are pairs of hexadecimal digits. The answer to a value that the type
+/// has is its sizes in the old and the new layout, and its text.
 pub const VALUE_ROWS: &str = "char | int:-128 | 1 4 = -128
 char | int:127 | 1 4 = 127
 char | int:-129 | misfit

@@ -1,8 +1,9 @@
+//! Tests of values: their types, their sizes and their text.
 use super::checks::{check, cut};
 use super::value_rows::VALUE_ROWS;
 use ipdl_base::{
-    Body, Builtin, Compress, Direction, Items, Kind, Level, Message, MessageRow, Name, ParamRow,
-    ParamRows, Reason, Schema, Semantics, Shape, TypeRow, Value, Values,
+    Body, Builtin, Compress, Direction, GOODBYE_NUMBER, Items, Kind, Level, Message, MessageRow,
+    Name, ParamRow, ParamRows, Reason, Schema, Semantics, Shape, TypeRow, Value, Values,
 };
 use std::alloc::{AllocError, Global};
 use std::test::Fail;
@@ -91,7 +92,7 @@ fn holds(argument: &str, held: Box<Value>) -> Result<Value, Fail> {
     }
 }
 
-/// What a word makes of the first of the values behind it.
+/// What a word makes of the first of the values after it.
 fn held_values(alloc: Global, argument: &str, values: Values) -> Result<Values, Fail> {
     match values {
         Values::First(held, rest) => {
@@ -102,7 +103,7 @@ fn held_values(alloc: Global, argument: &str, values: Values) -> Result<Values, 
     }
 }
 
-/// What a word makes of the values behind it.
+/// What a word makes of the values after it.
 fn made_values(alloc: Global, word: &str, values: Values) -> Result<Values, Fail> {
     let (kind, argument) = cut(word, ":");
     match kind {
@@ -155,7 +156,7 @@ fn schema(alloc: Global) -> Result<Schema, AllocError> {
     })
 }
 
-/// Whether the type has the value; and its sizes and its text, behind what stands there before.
+/// Whether the type has the value; and its sizes and its text, after the text so far.
 fn shown(alloc: Global, schema: &Schema, shape: &Shape, value: &Value) -> Result<String, Fail> {
     if !value_fits(schema, shape, value) {
         return Ok(String::from_str(alloc, "misfit")?);
@@ -207,8 +208,7 @@ fn constructor(alloc: Global) -> Result<MessageRow, AllocError> {
     })
 }
 
-/// Whether the parameters have the values; and their sizes and their text, behind what stands there
-/// before.
+/// Whether the parameters have the values; and their sizes and their text, after the text so far.
 fn params_shown(
     alloc: Global,
     schema: &Schema,
@@ -297,7 +297,7 @@ fn goodbye_size(alloc: Global) -> usize {
     };
     let message = Message {
         route: 0,
-        number: 4294901760,
+        number: GOODBYE_NUMBER,
         seq: 0,
         transaction: 0,
         made: 0,

@@ -11,9 +11,9 @@ use Rattle.linked_lists.proofs.KeyTest.{key_test}
 use Rattle.pending_queue.specs.declared.item.Item.{Item}
 use Rattle.pending_queue.specs.Links.{Rising}
 use Rattle.pending_queue.specs.Compression.{latest, without_latest}
-use Rattle.pending_queue.specs.Holding.{without_first}
+use Rattle.pending_queue.specs.DeferralContext.{without_first}
 
--- a key that is not the first goes from behind it
+-- a key that is not the first goes from after it
 not_first : (t : Item → Bool) (item : ℕ → Option Item) (k : ℕ) (ks : List ℕ) → (IsIn k ks → ⊥) → (o : Option ℕ) → ((j : ℕ) → o ≡ Some j → IsIn j ks × (passes t (item j) ≡ true)) → cons_some (item k) (items_of item (omit_some o ks)) ≡ items_of item (omit_some o (k ∷ ks))
 not_first t item k ks n None h = refl
 not_first t item k ks n (Some j) h =
@@ -81,7 +81,7 @@ latest-item t item (k ∷ ks) full =
           ∙ ap (λ v. item_of item (last v)) (sym (chosen-no t item k ks (ap (passes t) w.1 ∙ n)))
     ]
 
--- the latest goes, by whether it is behind the first
+-- the latest goes, by whether it is after the first
 goes-here : (item : ℕ → Option Item) (k : ℕ) (ks : List ℕ) (x : Item) (there : List Item) (o : Option ℕ) → item k ≡ Some x → (IsIn k ks → ⊥) → there ≡ items_of item (omit_some o ks) → cons_some (item k) (items_of item (omit_some o ks)) ≡ items_of item (omit_some o (k ∷ ks)) → cond (not (is_some o)) (items_of item ks) (x ∷ there) ≡ items_of item (omit_some (cond (is_some o) o (Some k)) (k ∷ ks))
 goes-here item k ks x there None w n rest f = ap (items_of item) (sym (omit-same key_test k k ks refl ∙ omit-none key_test k ks n))
 goes-here item k ks x there (Some j) w n rest f = ap (λ v. x ∷ v) rest ∙ ap (λ v. cons_some v (items_of item (omit key_eq j ks))) (sym w) ∙ f
@@ -94,16 +94,16 @@ latest-without t item (k ∷ ks) full once =
     let ch = chosen_keys t item ks in
     let any : list_any t (items_of item ks) ≡ is_some (last ch) = any-chosen t item ks full' in
     let rest : without_latest t (items_of item ks) ≡ items_of item (omit_some (last ch) ks) = latest-without t item ks full' once.1 in
-    let behind : cons_some (item k) (items_of item (omit_some (last ch) ks)) ≡ items_of item (omit_some (last ch) (k ∷ ks)) = not_first t item k ks once.0 (last ch) (λ j e. chosen-in t item j ks (last-of-in ch j e)) in
+    let following : cons_some (item k) (items_of item (omit_some (last ch) ks)) ≡ items_of item (omit_some (last ch) (k ∷ ks)) = not_first t item k ks once.0 (last ch) (λ j e. chosen-in t item j ks (last-of-in ch j e)) in
     ap (λ v. without_latest t (cons_some v (items_of item ks))) w.1
     ∙ ap (λ v. cond (t w.0 && not v) (items_of item ks) (w.0 ∷ without_latest t (items_of item ks))) any
     ∙ elim (cases_Bool (t w.0)) [
       | inl e ↦ ap (λ v. cond (v && not (is_some (last ch))) (items_of item ks) (w.0 ∷ without_latest t (items_of item ks))) e
-          ∙ goes-here item k ks w.0 (without_latest t (items_of item ks)) (last ch) w.1 once.0 rest behind
+          ∙ goes-here item k ks w.0 (without_latest t (items_of item ks)) (last ch) w.1 once.0 rest following
           ∙ ap (λ v. items_of item (omit_some v (k ∷ ks))) (sym (last-cons k ch))
           ∙ ap (λ v. items_of item (omit_some (last v) (k ∷ ks))) (sym (chosen-yes t item k ks (ap (passes t) w.1 ∙ e)))
       | inr n ↦ ap (λ v. cond (v && not (is_some (last ch))) (items_of item ks) (w.0 ∷ without_latest t (items_of item ks))) n
-          ∙ ap (λ v. w.0 ∷ v) rest ∙ ap (λ v. cons_some v (items_of item (omit_some (last ch) ks))) (sym w.1) ∙ behind
+          ∙ ap (λ v. w.0 ∷ v) rest ∙ ap (λ v. cons_some v (items_of item (omit_some (last ch) ks))) (sym w.1) ∙ following
           ∙ ap (λ v. items_of item (omit_some (last v) (k ∷ ks))) (sym (chosen-no t item k ks (ap (passes t) w.1 ∙ n)))
     ]
 

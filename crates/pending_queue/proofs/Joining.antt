@@ -1,7 +1,7 @@
 -- The lists once one more item has arrived.
 use Rattle.std.proofs.Common.{◌≡◌, ◌≢◌, inl, inr, ℕ, ◌+◌, ◌<◌, Bool, true, false, cond, List, [], ◌∷◌, ◌++◌, Option, Some, None, refl, sym, ap, ◌∙◌, subst, true≢false, arith}
 use Rattle.std.specs.Option.{option_map}
-use Rattle.linked_lists.specs.declared.link.Link.{Link}
+use Rattle.linked_lists.specs.declared.link.NodeLink.{NodeLink}
 use Rattle.linked_lists.specs.declared.link.Ends.{Ends}
 use Rattle.linked_lists.specs.Neighbours.{IsIn, AreDistinct, last}
 use Rattle.linked_lists.specs.Chains.{attached, IsChain}
@@ -58,7 +58,7 @@ joined-stamp : (likeness : Option Likeness) (lasts : Likeness → Option ℕ) (k
 joined-stamp None lasts key k o = refl
 joined-stamp (Some q) lasts key k o = map-stamp (attached (link_of Alike) (with_link Alike) (lasts q) key k) (λ n. attached-keeps (link_of Alike) (with_link Alike) (λ (m : Node). m.stamp) (λ l m. refl) (lasts q) key k n) o
 
-joined-along : (c : Chain) (likeness : Option Likeness) (lasts : Likeness → Option ℕ) (key : ℕ) (node node' : ℕ → Option Node) (ks : List ℕ) → ((l : Link) (n : Node) → link_of c (with_link Alike l n) ≡ link_of c n) → ((k : ℕ) → node' k ≡ joined likeness lasts key k (node k)) → IsChain (link_of c) node ks → IsChain (link_of c) node' ks
+joined-along : (c : Chain) (likeness : Option Likeness) (lasts : Likeness → Option ℕ) (key : ℕ) (node node' : ℕ → Option Node) (ks : List ℕ) → ((l : NodeLink) (n : Node) → link_of c (with_link Alike l n) ≡ link_of c n) → ((k : ℕ) → node' k ≡ joined likeness lasts key k (node k)) → IsChain (link_of c) node ks → IsChain (link_of c) node' ks
 joined-along c None lasts key node node' ks m at chain = chain-kept (link_of c) node node' ks (λ k h. at k) chain
 joined-along c (Some q) lasts key node node' ks m at chain =
     chain-along (link_of c) node node' ks (attached (link_of Alike) (with_link Alike) (lasts q) key) (λ k n. attached-keeps (link_of Alike) (with_link Alike) (link_of c) m (lasts q) key k n) (λ k h. at k) chain
@@ -148,7 +148,7 @@ module _ (node node1 node2 node3 node4 : ℕ → Option Node) (keys : List ℕ) 
 
   class3 : IsChain (link_of SameClass) node3 (those (is_class (class_of x)) ++ key ∷ [])
   class3 = chain-attached (link_of SameClass) (with_link SameClass) (λ l m. refl) node2 node3 (those (is_class (class_of x))) key at3' (those-once _) (those-not _) (class2 (class_of x)) _ there2
-      (ap (λ (l : Link). l.next) (attached-keeps (link_of Arrival) (with_link Arrival) (link_of SameClass) (λ l m. refl) arrival.last key key (fresh_node x stamp)))
+      (ap (λ (l : NodeLink). l.next) (attached-keeps (link_of Arrival) (with_link Arrival) (link_of SameClass) (λ l m. refl) arrival.last key key (fresh_node x stamp)))
 
   class3-other : (g : Class) → class_index (class_of x) ≢ class_index g → IsChain (link_of SameClass) node3 (those (is_class g))
   class3-other g n = chain-beside-attached (link_of SameClass) (with_link SameClass) (λ l m. refl) node2 node3 (those (is_class (class_of x))) key at3' (those-once _) (those-not _) (those (is_class g)) (λ k h. (
@@ -186,7 +186,7 @@ module _ (node node1 node2 node3 node4 : ℕ → Option Node) (keys : List ℕ) 
   there3 = at3 key ∙ ap (option_map (attached (link_of SameClass) (with_link SameClass) (ends_at classes (class_of x)).last key key)) there2
 
   end3 : (link_of Alike (attached (link_of SameClass) (with_link SameClass) (ends_at classes (class_of x)).last key key (attached (link_of Arrival) (with_link Arrival) arrival.last key key (fresh_node x stamp)))).next ≡ None
-  end3 = ap (λ (l : Link). l.next) (attached-keeps (link_of SameClass) (with_link SameClass) (link_of Alike) (λ l m. refl) (ends_at classes (class_of x)).last key key (attached (link_of Arrival) (with_link Arrival) arrival.last key key (fresh_node x stamp)) ∙ attached-keeps (link_of Arrival) (with_link Arrival) (link_of Alike) (λ l m. refl) arrival.last key key (fresh_node x stamp))
+  end3 = ap (λ (l : NodeLink). l.next) (attached-keeps (link_of SameClass) (with_link SameClass) (link_of Alike) (λ l m. refl) (ends_at classes (class_of x)).last key key (attached (link_of Arrival) (with_link Arrival) arrival.last key key (fresh_node x stamp)) ∙ attached-keeps (link_of Arrival) (with_link Arrival) (link_of Alike) (λ l m. refl) arrival.last key key (fresh_node x stamp))
 
   abbrev Likenesses4 : Likeness → Type 0
   Likenesses4 q =

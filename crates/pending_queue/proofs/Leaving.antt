@@ -1,7 +1,7 @@
 -- The lists once an item has gone.
 use Rattle.std.proofs.Common.{◌≡◌, ◌≢◌, inl, inr, ℕ, Bool, true, false, cond, List, [], ◌∷◌, Option, Some, None, refl, sym, ap, ◌∙◌, subst, true≢false, arith}
 use Rattle.std.specs.Option.{option_map}
-use Rattle.linked_lists.specs.declared.link.Link.{Link}
+use Rattle.linked_lists.specs.declared.link.NodeLink.{NodeLink}
 use Rattle.linked_lists.specs.declared.link.Ends.{Ends}
 use Rattle.linked_lists.specs.Neighbours.{IsIn, AreDistinct, last, before, after, omit}
 use Rattle.linked_lists.specs.Chains.{detached, IsChain}
@@ -37,15 +37,15 @@ rising-rem st k (j ∷ ks) r =
 
 -- ---- nodes
 
-left-item : (likeness : Option Likeness) (gone : Link) (k : ℕ) (o : Option Node) → option_map (λ (n : Node). n.item) (left likeness gone k o) ≡ option_map (λ (n : Node). n.item) o
+left-item : (likeness : Option Likeness) (gone : NodeLink) (k : ℕ) (o : Option Node) → option_map (λ (n : Node). n.item) (left likeness gone k o) ≡ option_map (λ (n : Node). n.item) o
 left-item None gone k o = refl
 left-item (Some q) gone k o = map-item (detached (link_of Alike) (with_link Alike) gone k) (λ n. detached-keeps (link_of Alike) (with_link Alike) (λ (m : Node). m.item) (λ l m. refl) gone k n) o
 
-left-stamp : (likeness : Option Likeness) (gone : Link) (k : ℕ) (o : Option Node) → stamp_of (left likeness gone k o) ≡ stamp_of o
+left-stamp : (likeness : Option Likeness) (gone : NodeLink) (k : ℕ) (o : Option Node) → stamp_of (left likeness gone k o) ≡ stamp_of o
 left-stamp None gone k o = refl
 left-stamp (Some q) gone k o = map-stamp (detached (link_of Alike) (with_link Alike) gone k) (λ n. detached-keeps (link_of Alike) (with_link Alike) (λ (m : Node). m.stamp) (λ l m. refl) gone k n) o
 
-left-along : (c : Chain) (likeness : Option Likeness) (gone : Link) (node node' : ℕ → Option Node) (ks : List ℕ) → ((l : Link) (m : Node) → link_of c (with_link Alike l m) ≡ link_of c m) → ((k : ℕ) → node' k ≡ left likeness gone k (node k)) → IsChain (link_of c) node ks → IsChain (link_of c) node' ks
+left-along : (c : Chain) (likeness : Option Likeness) (gone : NodeLink) (node node' : ℕ → Option Node) (ks : List ℕ) → ((l : NodeLink) (m : Node) → link_of c (with_link Alike l m) ≡ link_of c m) → ((k : ℕ) → node' k ≡ left likeness gone k (node k)) → IsChain (link_of c) node ks → IsChain (link_of c) node' ks
 left-along c None gone node node' ks m at chain = chain-kept (link_of c) node node' ks (λ k h. at k) chain
 left-along c (Some q) gone node node' ks m at chain =
     chain-along (link_of c) node node' ks (detached (link_of Alike) (with_link Alike) gone) (λ k n. detached-keeps (link_of Alike) (with_link Alike) (link_of c) m gone k n) (λ k h. at k) chain

@@ -23,14 +23,14 @@ use Rattle.pending_queue.specs.Nodes.{room, link_of, with_link}
 use Rattle.pending_queue.specs.Classes.{class_of, likeness_eq, likeness_is, likeness_of, is_likeness, ends_at, with_ends}
 use Rattle.pending_queue.specs.Alike.{last_at, joined, left, last_without}
 use Rattle.pending_queue.specs.Links.{AreLinked}
-use Rattle.pending_queue.specs.Holding.{without_first}
+use Rattle.pending_queue.specs.DeferralContext.{without_first}
 use Rattle.pending_queue.specs.Queue.{node_at, last_of_likeness, keys_of, queue_item, items_in, IsQueue}
 use Rattle.pending_queue.proofs.ClassLemmas.{likeness-same}
 use Rattle.pending_queue.proofs.ItemLemmas.{first-without}
 use Rattle.pending_queue.proofs.Joining.{fresh_node, joins, joined_items}
 use Rattle.pending_queue.proofs.Leaving.{leaves, left_items}
 
--- what stands on lists stands on the same ones by other names
+-- nodes on lists are on the same lists by other names
 moved : (node : ℕ → Option Node) (keys keys' : List ℕ) (arrival arrival' : Ends) (classes classes' : Classes) (lasts lasts' : Likeness → Option ℕ) (stamp stamp' : ℕ) → keys' ≡ keys → arrival' ≡ arrival → classes' ≡ classes → ((q : Likeness) → lasts' q ≡ lasts q) → stamp' ≡ stamp → AreLinked node keys arrival classes lasts stamp → AreLinked node keys' arrival' classes' lasts' stamp'
 moved node keys keys' arrival arrival' classes classes' lasts lasts' stamp stamp' k a g l n s =
     let l' : lasts ≡ lasts' = λ j q. sym (l q) j in
@@ -40,7 +40,7 @@ moved node keys keys' arrival arrival' classes classes' lasts lasts' stamp stamp
     (subst (λ v. AreLinked node keys arrival classes v stamp') l'
     (subst (λ v. AreLinked node keys arrival classes lasts v) (sym n) s))))
 
--- the nodes stand for these items
+-- the nodes represent these items
 pub record Holds (q : Queue) (items : List Item) : Type 0 where
   pub linked : AreLinked (node_at q) (keys_of q) q.arrival q.classes (last_of_likeness q) q.stamp
   pub items_are : items_in q ≡ items

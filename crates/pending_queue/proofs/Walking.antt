@@ -9,7 +9,7 @@ use Rattle.ipdl_base.specs.declared.kinds.Side.{Side}
 use Rattle.ipdl_base.specs.declared.message.Body.{Body}
 use Rattle.ipdl_base.specs.declared.message.Body.TheVariants.{Request, Reply, Fault, Goodbye}
 use Rattle.ipdl_base.specs.Deferral.{defers_request, defers_waiting, defers_arrival}
-use Rattle.linked_lists.specs.declared.link.Link.{Link}
+use Rattle.linked_lists.specs.declared.link.NodeLink.{NodeLink}
 use Rattle.linked_lists.specs.Neighbours.{IsIn, AreDistinct, head, after}
 use Rattle.linked_lists.specs.Chains.{link_of_some}
 use Rattle.linked_lists.specs.Chosen.{passes, chosen_keys}
@@ -17,7 +17,7 @@ use Rattle.linked_lists.proofs.NeighbourLemmas.{same, other, same_or_other, head
 use Rattle.linked_lists.proofs.ChosenLemmas.{chosen-no, chosen-in, in-chosen, chosen-distinct}
 use Rattle.linked_lists.specs.Links.{key_eq}
 use Rattle.linked_lists.proofs.KeyTest.{key_test}
-use Rattle.pending_queue.specs.declared.holding.Holding.{Holding}
+use Rattle.pending_queue.specs.declared.deferral_context.DeferralContext.{DeferralContext}
 use Rattle.pending_queue.specs.declared.item.Item.{Item}
 use Rattle.pending_queue.specs.declared.item.Item.TheVariants.{Message, Broken}
 use Rattle.pending_queue.specs.declared.node.Node.{Node}
@@ -25,7 +25,7 @@ use Rattle.pending_queue.specs.declared.node.Chain.TheVariants.{SameClass}
 use Rattle.pending_queue.specs.declared.class.Class.{Class}
 use Rattle.pending_queue.specs.declared.class.Class.TheVariants.{Asynchronous, SyncNot, SyncInside, Highest, Closing}
 use Rattle.pending_queue.specs.declared.queue.Queue.{Queue}
-use Rattle.pending_queue.specs.Holding.{arrival_of_body, arrival_of, is_free}
+use Rattle.pending_queue.specs.DeferralContext.{arrival_of_body, arrival_of, is_free}
 use Rattle.pending_queue.specs.Classes.{class_of, class_of_request, class_of_body, class_index, is_class, defers_class}
 use Rattle.pending_queue.specs.Links.{stamp_of}
 use Rattle.pending_queue.specs.Queue.{node_at, keys_of, queue_item, IsQueue, earlier_of}
@@ -58,7 +58,7 @@ rank-next xs k (y ∷ ys) o =
 
 -- ---- the walk
 
-step-at : (t : Item → Bool) (item : ℕ → Option Item) (ks : List ℕ) (k : ℕ) (ahead behind : List ℕ) → ks ≡ ahead ++ behind → Some k ≡ head behind → head (chosen_keys t item ks) ≡ head (chosen_keys t item behind) → AreDistinct ks → passes t (item k) ≡ false → IsAt t item ks (after key_eq k ks) × (rank_of (after key_eq k ks) ks < rank k ks) × IsIn k ks
+step-at : (t : Item → Bool) (item : ℕ → Option Item) (ks : List ℕ) (k : ℕ) (ahead following : List ℕ) → ks ≡ ahead ++ following → Some k ≡ head following → head (chosen_keys t item ks) ≡ head (chosen_keys t item following) → AreDistinct ks → passes t (item k) ≡ false → IsAt t item ks (after key_eq k ks) × (rank_of (after key_eq k ks) ks < rank k ks) × IsIn k ks
 step-at t item ks k ahead [] w e r o p = absurd cc
 step-at t item ks k ahead (b ∷ bs) w e r o p =
     let kb : b ≡ k = cc in
@@ -69,7 +69,7 @@ step-at t item ks k ahead (b ∷ bs) w e r o p =
     let two : rank_of (after key_eq k ks) ks ≡ length bs = ap (λ v. rank_of v ks) next ∙ ap (rank_of (head bs)) w' ∙ rank-next ahead k bs o' in (
       record {
         ahead = ahead ++ k ∷ [];
-        behind = bs;
+        following = bs;
         whole = w' ∙ sym (append_assoc ahead (k ∷ []) bs);
         here = next;
         rest = r ∙ ap head (chosen-no t item b bs (ap (λ v. passes t (item v)) kb ∙ p));
@@ -84,9 +84,9 @@ module _ (q : Queue) (s : IsQueue q) (t : Item → Bool) (g : Class) where
 
   pub steps : (k : ℕ) → IsAt t (queue_item q) class_keys (Some k) → passes t (queue_item q k) ≡ false → IsAt t (queue_item q) class_keys (link_of_some (link_of SameClass) (node_at q k)).next × (rank_of (link_of_some (link_of SameClass) (node_at q k)).next class_keys < rank_of (Some k) class_keys)
   steps k w p =
-      let r = step-at t (queue_item q) class_keys k w.ahead w.behind w.whole w.here w.rest (chosen-distinct (is_class g) (queue_item q) (keys_of q) s.linked.distinct) p in
+      let r = step-at t (queue_item q) class_keys k w.ahead w.following w.whole w.here w.rest (chosen-distinct (is_class g) (queue_item q) (keys_of q) s.linked.distinct) p in
       let c = s.linked.class_chains g k r.2 in
-      let link : after key_eq k class_keys ≡ (link_of_some (link_of SameClass) (node_at q k)).next = sym (ap (λ v. (link_of_some (link_of SameClass) v).next) c.1 ∙ ap (λ (l : Link). l.next) c.2) in
+      let link : after key_eq k class_keys ≡ (link_of_some (link_of SameClass) (node_at q k)).next = sym (ap (λ v. (link_of_some (link_of SameClass) v).next) c.1 ∙ ap (λ (l : NodeLink). l.next) c.2) in
       subst (λ v. IsAt t (queue_item q) class_keys v × (rank_of v class_keys < rank_of (Some k) class_keys)) link (r.0, r.1)
 
 -- ---- classes that are passed over
@@ -126,7 +126,7 @@ of_class : (g : Class) (x : Item) → is_class g x ≡ true → class_of x ≡ g
 of_class g x e =
     one_class (class_of x) g (elim (same_or_other key_test (class_index (class_of x)) (class_index g)) [ inl f ↦ f | inr n ↦ absurd (true≢false (sym e ∙ other key_test (class_index (class_of x)) (class_index g) n)) ])
 
-pub none_free : (h : Holding) (g : Class) (item : ℕ → Option Item) (ks : List ℕ) → defers_class h.level g ≡ true → None ≡ head (chosen_keys (is_free h) item (chosen_keys (is_class g) item ks))
+pub none_free : (h : DeferralContext) (g : Class) (item : ℕ → Option Item) (ks : List ℕ) → defers_class h.level g ≡ true → None ≡ head (chosen_keys (is_free h) item (chosen_keys (is_class g) item ks))
 none_free h g item ks p =
     ap head (sym (chosen-none (is_free h) item (chosen_keys (is_class g) item ks) (λ k q. by (item k) (chosen-in (is_class g) item k ks q).1)))
   where

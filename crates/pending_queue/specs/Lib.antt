@@ -1,10 +1,10 @@
 pub mod ArrivedItems
 pub mod Compression
-pub mod Holding
+pub mod DeferralContext
 pub mod Plain
 pub mod Laws
 mod CompressionExamples
-mod HoldingExamples
+mod DeferralContextExamples
 pub mod Nodes
 pub mod Classes
 pub mod Alike

@@ -1,4 +1,4 @@
--- The lists on which the nodes of the arrived items stand.
+-- The lists that the nodes of the arrived items are on.
 use Rattle.std.specs.Prelude.{◌≡◌, ℕ, ◌<◌, List, [], ◌∷◌, Option, Some, None}
 use Rattle.std.specs.Option.{option_map}
 use Rattle.linked_lists.specs.declared.link.Ends.{Ends}
@@ -29,7 +29,7 @@ abbrev pub Rising : (ℕ → ℕ) → List ℕ → Type 0
 Rising stamp [] = Unit {0}
 Rising stamp (k ∷ ks) = ((j : ℕ) → IsIn j ks → stamp k < stamp j) × Rising stamp ks
 
--- the nodes of these keys stand on a list of all, on one of each class and on one of each likeness
+-- the nodes of these keys are on a list of all, on one of each class and on one of each likeness
 pub record AreLinked (node : ℕ → Option Node) (keys : List ℕ) (arrival : Ends) (classes : Classes) (lasts : Likeness → Option ℕ) (stamp : ℕ) : Type 0 where
   pub distinct : AreDistinct keys
   pub arrival_chain : IsChain (link_of Arrival) node keys

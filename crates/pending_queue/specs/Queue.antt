@@ -1,4 +1,4 @@
--- The nodes of the arrived items, and what they stand for.
+-- The nodes of the arrived items, and what they represent.
 use Rattle.std.specs.Prelude.{◌≡◌, ℕ, ◌+◌, ◌<◌, ◌≤◌, ◌^◌, nat_lt, Bool, List, length, Option, Some, None, if◌then◌else◌}
 use Rattle.ipdl_base.specs.declared.kinds.Compress.{Compress}
 use Rattle.linked_lists.specs.Neighbours.{IsIn}
@@ -34,7 +34,7 @@ queue_item q = item_at (node_at q)
 abbrev pub items_in : Queue → List Item
 items_in q = items_of (queue_item q) (keys_of q)
 
--- the nodes stand for the items, and there is room for as many more as it promises
+-- the nodes represent the items, and there is room for as many more as it promises
 pub record IsQueue (q : Queue) : Type 0 where
   pub linked : AreLinked (node_at q) (keys_of q) q.arrival q.classes (last_of_likeness q) q.stamp
   pub len : slab.slab_len q.nodes ≡ length (keys_of q)

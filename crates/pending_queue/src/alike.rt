@@ -1,4 +1,5 @@
-//! The list of the requests that are alike, which has no ends of its own: the last one of each likeness stands in a map.
+//! The list of the requests that are alike. It has no ends of its own: a map has the last request
+//! of each likeness.
 ghost use Rattle.std.specs.Prelude.{⊤, ◌≡◌, ◌+◌, ◌<◌, ◌≤◌, ℕ, Some, IsSome, MatchOption, if◌then◌else◌};
 ghost use Rattle.slab.specs.Slab.{get, slab_len};
 ghost use Rattle.indexmap.specs.IndexMap.{spare};
@@ -9,10 +10,10 @@ ghost use Rattle.pending_queue.specs.Alike.{last_at, joined, left, last_without}
 use crate::class::Likeness;
 use crate::node::{Chain, Node};
 use indexmap::IndexMap;
-use linked_lists::{Link, attach, detach};
+use linked_lists::{NodeLink, attach, detach};
 use slab::Slab;
 
-/// The node at `key` becomes the last of its likeness.
+/// Makes the node at `key` the last of its likeness.
 pub(crate) fn join_alike(
     nodes: &mut Slab<Node>,
     lasts: &mut IndexMap<Likeness, usize>,
@@ -36,7 +37,7 @@ pub(crate) fn join_alike(
     }
 }
 
-// Another key is that of the last of a likeness, or none.
+// Stores the key of the last request of a likeness, or removes it.
 fn set_last(lasts: &mut IndexMap<Likeness, usize>, likeness: Likeness, previous: Option<usize>)
     requires { IsSome (last_at lasts.old likeness) }
     ensures lasts { (q : OfLikeness) → last_at lasts.new q ≡ (if likeness_is (Some likeness) q then previous else last_at lasts.old q) }
@@ -54,12 +55,12 @@ fn set_last(lasts: &mut IndexMap<Likeness, usize>, likeness: Likeness, previous:
     }
 }
 
-/// A node of a likeness, whose link was that, is among those of its likeness no more.
+/// Removes a node, whose link this was, from the list of its likeness.
 pub(crate) fn leave_alike(
     nodes: &mut Slab<Node>,
     lasts: &mut IndexMap<Likeness, usize>,
     likeness: Option<Likeness>,
-    gone: Link,
+    gone: NodeLink,
 )
     requires { MatchOption likeness ⊤ (λ q. IsSome (last_at lasts.old q)) }
     ensures nodes { (k : ℕ) → get nodes.new k ≡ left likeness gone k (get nodes.old k) }

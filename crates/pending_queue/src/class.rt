@@ -4,7 +4,7 @@ ghost use Rattle.linked_lists.specs.Links.{no_ends};
 ghost use Rattle.pending_queue.specs.declared.class.Class.{Class as OfClass};
 ghost use Rattle.pending_queue.specs.Classes.{class_of, likeness_of, ends_at, with_ends, defers_class};
 
-use crate::holding::Holding;
+use crate::deferral_context::DeferralContext;
 use crate::item::Item;
 use ipdl_base::{Body, Level};
 use linked_lists::Ends;
@@ -12,15 +12,17 @@ use linked_lists::Ends;
 /// What decides whether an item is deferred.
 #[derive(Clone, Copy)]
 pub(crate) enum Class {
-    /// An async request below the level `InsideCpow`, or the reply of one: deferred where anything is awaited.
+    /// An async request below the level `InsideCpow`, or the reply to one: deferred while anything
+    /// is awaited.
     Asynchronous,
-    /// A sync request of the level `Not`: by its transaction, where that level is awaited.
+    /// A sync request of the level `Not`: deferred by its transaction, while that level is awaited.
     SyncNot,
-    /// A sync request of the level `InsideSync`: by its transaction, where that level is awaited.
+    /// A sync request of the level `InsideSync`: deferred by its transaction, while that level is
+    /// awaited.
     SyncInside,
     /// A request of the level `InsideCpow`: never deferred.
     Highest,
-    /// A goodbye, a mark, or the reply of a sync request: never deferred.
+    /// A goodbye, a mark, or the reply to a sync request: never deferred.
     Closing,
 }
 
@@ -41,7 +43,7 @@ pub(crate) struct Classes {
     pub(crate) closing: Ends,
 }
 
-/// The class of an item.
+/// Returns the class of an item.
 pub(crate) fn class_of(item: &Item) -> Class
     ensures { result ≡ class_of item.now }
 {
@@ -70,7 +72,7 @@ pub(crate) fn class_of(item: &Item) -> Class
     }
 }
 
-/// The likeness of an item, which a request has.
+/// Returns the likeness of an item, if it is a request.
 pub(crate) fn likeness_of(item: &Item) -> Option<Likeness>
     ensures { result ≡ likeness_of item.now }
 {
@@ -87,7 +89,7 @@ pub(crate) fn likeness_of(item: &Item) -> Option<Likeness>
 }
 
 impl Classes {
-    /// The ends of empty lists.
+    /// Returns the ends of empty lists.
     pub(crate) fn none() -> Classes
         ensures { (class : OfClass) → ends_at result class ≡ no_ends }
     {
@@ -100,7 +102,7 @@ impl Classes {
         }
     }
 
-    /// The ends of the list of a class.
+    /// Returns the ends of the list of a class.
     pub(crate) fn ends(&self, class: Class) -> Ends
         ensures { result ≡ ends_at self.now class }
     {
@@ -113,7 +115,7 @@ impl Classes {
         }
     }
 
-    /// The list of a class has other ends.
+    /// Stores the ends of the list of a class.
     pub(crate) fn set(&mut self, class: Class, ends: Ends)
         ensures { self.new ≡ with_ends class ends self.old }
     {
@@ -127,8 +129,8 @@ impl Classes {
     }
 }
 
-/// Whether all of a class are deferred, whatever their transaction.
-pub(crate) fn defers_class(holding: &Holding, class: Class) -> bool
+/// Whether all items of a class are deferred, whatever their transaction.
+pub(crate) fn defers_class(holding: &DeferralContext, class: Class) -> bool
     ensures { result ≡ defers_class holding.now.level class }
 {
     match (holding.level, class) {

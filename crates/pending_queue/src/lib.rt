@@ -3,14 +3,14 @@
 
 mod alike;
 mod class;
-mod holding;
+mod deferral_context;
 mod item;
 mod laws;
 mod node;
 mod pending;
 mod queue;
 
-pub use holding::Holding;
-pub use item::{Item, PushFault, Pushed};
+pub use deferral_context::DeferralContext;
+pub use item::{Item, PushEffect, PushFault};
 pub use laws::plain_forms_commute;
 pub use pending::Pending;

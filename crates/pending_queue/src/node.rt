@@ -3,9 +3,9 @@ ghost use Rattle.std.specs.Prelude.{◌≡◌};
 ghost use Rattle.pending_queue.specs.Nodes.{link_of, with_link, reads_back};
 
 use crate::item::Item;
-use linked_lists::{Link, LinkedNode};
+use linked_lists::{LinkedNode, NodeLink};
 
-/// The lists that a node is on: all in order of arrival, those of its class, those alike.
+/// The lists that a node is on: all nodes in order of arrival, those of its class, and those alike.
 #[derive(Clone, Copy)]
 pub(crate) enum Chain {
     Arrival,
@@ -18,9 +18,9 @@ pub(crate) enum Chain {
 pub(crate) struct Node {
     pub(crate) item: Item,
     pub(crate) stamp: u64,
-    pub(crate) arrival: Link,
-    pub(crate) class: Link,
-    pub(crate) alike: Link,
+    pub(crate) arrival: NodeLink,
+    pub(crate) class: NodeLink,
+    pub(crate) alike: NodeLink,
 }
 
 impl LinkedNode for Node {
@@ -30,7 +30,7 @@ impl LinkedNode for Node {
 
     ghost with_link = { with_link };
 
-    fn link(&self, chain: Chain) -> Link {
+    fn link(&self, chain: Chain) -> NodeLink {
         match chain {
             Chain::Arrival => self.arrival,
             Chain::SameClass => self.class,
@@ -38,7 +38,7 @@ impl LinkedNode for Node {
         }
     }
 
-    fn set_link(&mut self, chain: Chain, link: Link) {
+    fn set_link(&mut self, chain: Chain, link: NodeLink) {
         match chain {
             Chain::Arrival => self.arrival = link,
             Chain::SameClass => self.class = link,

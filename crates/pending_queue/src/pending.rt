@@ -1,17 +1,17 @@
 //! The arrived items of one end, as its callers see them.
 ghost use Rattle.std.specs.Prelude.{◌≡◌, ◌==◌, ◌+◌, ◌<◌, ◌≤◌, [], ◌∷◌, ◌++◌, find, length, option_map, IfOk, IfErr, OnOk, OnErr, IfNone, IsOk};
 ghost use Rattle.pending_queue.specs.Compression.{replaced, staying, pushed_of};
-ghost use Rattle.pending_queue.specs.Holding.{is_free, without_first};
+ghost use Rattle.pending_queue.specs.DeferralContext.{is_free, without_first};
 
-use crate::holding::Holding;
-use crate::item::{Item, PushFault, Pushed};
+use crate::deferral_context::DeferralContext;
+use crate::item::{Item, PushEffect, PushFault};
 use crate::queue::Queue;
 use ipdl_base::Compress;
 use std::alloc::{AllocError, Global};
 use std::marker::Model;
 
-/// The items that have arrived at an end and were not taken, which contracts see as a list, oldest
-/// first, and a number: how many more items there is room for.
+/// The items that have arrived at an end and were not taken. Contracts see them as a list, oldest
+/// first, with the number of further items that there is room for.
 #[derive(Drop)]
 pub struct Pending {
     queue: Queue,
@@ -34,7 +34,8 @@ impl Model for Pending {
 }
 
 impl Pending {
-    /// No items. They take the memory that they need from `alloc`; the only error is want of it.
+    /// Returns a queue without items, which takes its memory from `alloc`. Fails only if memory
+    /// runs out.
     pub fn new(alloc: Global) -> Result<Pending, AllocError>
         ensures { IfOk result (λ pending. pending.items ≡ []) }
     {
@@ -43,10 +44,10 @@ impl Pending {
         })
     }
 
-    /// Puts an item last. Under `Last` it replaces the last item, and under `All` the latest, where
-    /// that is a request of its type and route and it is a request too (docs/arrived.md). Want of
-    /// memory hands the item back and changes nothing; where there is room it does not come.
-    pub fn push(&mut self, item: Item, compress: Compress) -> Result<Pushed, PushFault>
+    /// Appends an item. Under `Last` it replaces the last item, and under `All` the latest, if both
+    /// are requests of the same type and route (docs/arrived.md). If memory runs out, the item is
+    /// returned and nothing changes; that cannot happen if there is room.
+    pub fn push(&mut self, item: Item, compress: Compress) -> Result<PushEffect, PushFault>
         ensures answer { IfOk result (λ pushed. pushed ≡ pushed_of (replaced compress item self.old.items)) }
         ensures items { OnOk result (self.new.items ≡ staying compress item self.old.items ++ item ∷ []) }
         ensures fault { IfErr result (λ fault. fault ≡ PushFault.NoMemory item) }
@@ -57,8 +58,7 @@ impl Pending {
         self.queue.push(item, compress)
     }
 
-    /// Makes room for `n` more items. The only error is want of memory; there is never less room
-    /// after it.
+    /// Makes room for `n` more items. Fails only if memory runs out, and never leaves less room.
     pub fn reserve(&mut self, n: usize) -> Result<(), AllocError>
         ensures items { self.new.items ≡ self.old.items }
         ensures ok { OnOk result (n ≤ self.new.spare) }
@@ -67,7 +67,7 @@ impl Pending {
         self.queue.reserve(n)
     }
 
-    /// The number of items.
+    /// Returns the number of items.
     pub fn len(&self) -> usize
         ensures { result ≡ length self.now.items }
     {
@@ -81,7 +81,7 @@ impl Pending {
         self.queue.len() == 0
     }
 
-    /// The item that a push of this one would replace; `None` where it would replace none.
+    /// Returns the item that a push of `item` would replace, or `None`.
     pub fn replaced(&self, item: &Item, compress: Compress) -> Option<&Item>
         ensures { option_map (λ old. old.now) result ≡ replaced compress item.now self.now.items }
     {
@@ -89,18 +89,17 @@ impl Pending {
         self.queue.item(key)
     }
 
-    /// The oldest item that is not deferred, which `take_first` would take; `None` exactly where
-    /// there is none.
-    pub fn first(&self, holding: &Holding) -> Option<&Item>
+    /// Returns the oldest item that is not deferred, which `take_first` would take, or `None`.
+    pub fn first(&self, holding: &DeferralContext) -> Option<&Item>
         ensures { option_map (λ item. item.now) result ≡ find (is_free holding.now) self.now.items }
     {
         let key = self.queue.first_free(holding)?;
         self.queue.item(key)
     }
 
-    /// Takes the oldest item that is not deferred (docs/arrived.md); `None` exactly where there is
-    /// none. It takes no memory.
-    pub fn take_first(&mut self, holding: &Holding) -> Option<Item>
+    /// Removes and returns the oldest item that is not deferred (docs/arrived.md), or `None`. Takes
+    /// no memory.
+    pub fn take_first(&mut self, holding: &DeferralContext) -> Option<Item>
         ensures first { result ≡ find (is_free holding.now) self.old.items }
         ensures rest { self.new.items ≡ without_first (is_free holding.now) self.old.items }
         ensures none { IfNone result (self.new ≡ self.old) }
@@ -108,7 +107,7 @@ impl Pending {
     {
         self.queue.take_free(holding)
     }
-    /// Takes out all items and keeps none. It takes no memory, and there is never less room after it.
+    /// Removes all items. Takes no memory, and leaves no less room.
     pub fn clear(&mut self)
         ensures items { self.new.items ≡ [] }
         ensures spare { self.old.spare ≤ self.new.spare }

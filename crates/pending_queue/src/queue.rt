@@ -7,21 +7,22 @@ ghost use Rattle.linked_lists.specs.Neighbours.{IsIn, head, omit};
 ghost use Rattle.linked_lists.specs.Links.{key_eq};
 ghost use Rattle.linked_lists.specs.Chosen.{chosen_keys, passes, items_of};
 ghost use Rattle.pending_queue.specs.Classes.{is_class};
-ghost use Rattle.pending_queue.specs.Holding.{is_free, without_first};
+ghost use Rattle.pending_queue.specs.DeferralContext.{is_free, without_first};
 ghost use Rattle.pending_queue.specs.Links.{stamp_of};
 
 use crate::alike::{join_alike, leave_alike};
 use crate::class::{Class, Classes, Likeness, class_of, defers_class, likeness_of};
-use crate::holding::{Holding, defers};
-use crate::item::{Item, PushFault, Pushed, are_alike};
+use crate::deferral_context::{DeferralContext, defers};
+use crate::item::{Item, PushEffect, PushFault, are_alike};
 use crate::node::{Chain, Node};
 use indexmap::IndexMap;
 use ipdl_base::Compress;
-use linked_lists::{Ends, KeyStep, Keys, Link, attach, detach, link_at};
+use linked_lists::{Ends, KeyStep, Keys, NodeLink, attach, detach, link_at};
 use slab::Slab;
 use std::alloc::{AllocError, Global};
 
-/// The nodes of the items, the ends of their lists, and the key of the last request of each type and route.
+/// The nodes of the items, the ends of their lists, and the key of the last request of each type
+/// and route.
 #[derive(Drop)]
 pub(crate) struct Queue {
     pub(crate) nodes: Slab<Node>,
@@ -30,7 +31,7 @@ pub(crate) struct Queue {
     pub(crate) classes: Classes,
     // The stamp of the next item.
     pub(crate) stamp: u64,
-    // For how many more items there is room.
+    // The number of further items that there is room for.
     pub(crate) spare: usize,
     pub(crate) keys: Keys,
 }
@@ -38,7 +39,7 @@ pub(crate) struct Queue {
 impl Queue {
     ghost use Rattle.pending_queue.specs.Queue.{node_at, keys_of, queue_item, items_in, IsQueue, earlier_of, last_if, last_of_its_likeness, Replaces};
 
-    /// No items.
+    /// Returns a queue without items.
     pub(crate) fn new(alloc: Global) -> Queue
         ensures queue { IsQueue result }
         ensures items { items_in result ≡ [] }
@@ -55,7 +56,7 @@ impl Queue {
         }
     }
 
-    /// Puts an item last, for which there is room.
+    /// Appends an item for which there is room.
     pub(crate) fn put(&mut self, item: Item)
         requires queue { IsQueue self.old }
         requires room { 0 < self.old.spare }
@@ -65,7 +66,7 @@ impl Queue {
     {
         let class = class_of(&item);
         let likeness = likeness_of(&item);
-        let alone = Link::none();
+        let alone = NodeLink::none();
         let key = self.nodes.insert_reserved(Node {
             item,
             stamp: self.stamp,
@@ -84,7 +85,7 @@ impl Queue {
         self.keys = self.keys.then(&KeyStep::Append(key));
     }
 
-    /// Takes out the item of a key.
+    /// Removes and returns the item of a key.
     pub(crate) fn take(&mut self, key: usize) -> Item
         requires queue { IsQueue self.old }
         requires there { IsIn key (keys_of self.old) }
@@ -106,7 +107,7 @@ impl Queue {
         node.item
     }
 
-    /// Takes out all items.
+    /// Removes all items.
     pub(crate) fn clear(&mut self)
         requires { IsQueue self.old }
         ensures queue { IsQueue self.new }
@@ -144,7 +145,7 @@ impl Queue {
     }
 
     // Whether the item of a key is not deferred.
-    fn frees(&self, holding: &Holding, key: usize) -> bool
+    fn frees(&self, holding: &DeferralContext, key: usize) -> bool
         ensures { result ≡ passes (is_free holding.now) (queue_item self.now key) }
     {
         match self.nodes.get(key) {
@@ -153,8 +154,8 @@ impl Queue {
         }
     }
 
-    // The oldest item of a class that is not deferred.
-    fn candidate(&self, holding: &Holding, class: Class) -> Option<usize>
+    // Returns the oldest item of a class that is not deferred.
+    fn candidate(&self, holding: &DeferralContext, class: Class) -> Option<usize>
         requires { IsQueue self.now }
         ensures { result ≡ head (chosen_keys (is_free holding.now) (queue_item self.now)
             (chosen_keys (is_class class) (queue_item self.now) (keys_of self.now))) }
@@ -181,7 +182,7 @@ impl Queue {
         }
     }
 
-    // The one of two keys that arrived earlier.
+    // Returns the key of the item that arrived earlier.
     fn earlier(&self, a: Option<usize>, b: Option<usize>) -> Option<usize>
         ensures { result ≡ earlier_of (node_at self.now) a b }
     {
@@ -198,8 +199,8 @@ impl Queue {
         }
     }
 
-    /// The key of the oldest item that is not deferred.
-    pub(crate) fn first_free(&self, holding: &Holding) -> Option<usize>
+    /// Returns the key of the oldest item that is not deferred.
+    pub(crate) fn first_free(&self, holding: &DeferralContext) -> Option<usize>
         requires { IsQueue self.now }
         ensures { result ≡ head (chosen_keys (is_free holding.now) (queue_item self.now) (keys_of self.now)) }
     {
@@ -220,7 +221,7 @@ impl Queue {
         }
     }
 
-    // The key of the last item, where it is a request of the new one's type and route.
+    // Returns the key of the last item, if it is a request of the new one's type and route.
     fn last_alike(&self, new: &Item) -> Option<usize>
         ensures { result ≡ last_if (are_alike new.now) (queue_item self.now) self.now.arrival.last }
     {
@@ -232,7 +233,7 @@ impl Queue {
         }
     }
 
-    // The key of the latest item that is a request of the new one's type and route.
+    // Returns the key of the latest item that is a request of the new one's type and route.
     fn latest_alike(&self, new: &Item) -> Option<usize>
         ensures { result ≡ last_of_its_likeness self.now (likeness_of new.now) }
     {
@@ -240,7 +241,7 @@ impl Queue {
         self.lasts.get(&likeness).copied()
     }
 
-    /// The key of the item that a new one replaces.
+    /// Returns the key of the item that a new one replaces.
     pub(crate) fn target(&self, new: &Item, compress: Compress) -> Option<usize>
         requires { IsQueue self.now }
         ensures { Replaces self.now compress new.now result }
@@ -252,8 +253,8 @@ impl Queue {
         }
     }
 
-    /// Puts an item last, and takes out the one that it replaces.
-    pub(crate) fn push(&mut self, item: Item, compress: Compress) -> Result<Pushed, PushFault>
+    /// Appends an item, and removes the one that it replaces.
+    pub(crate) fn push(&mut self, item: Item, compress: Compress) -> Result<PushEffect, PushFault>
         requires { IsQueue self.old }
         ensures queue { IsQueue self.new }
         ensures answer { IfOk result (λ pushed. pushed ≡ pushed_of (replaced compress item (items_in self.old))) }
@@ -270,17 +271,17 @@ impl Queue {
         match self.target(&item, compress) {
             None => {
                 self.put(item);
-                Ok(Pushed::Added)
+                Ok(PushEffect::Added)
             }
             Some(key) => {
                 let old = self.take(key);
                 self.put(item);
-                Ok(Pushed::Replaced(old))
+                Ok(PushEffect::Replaced(old))
             }
         }
     }
 
-    /// The item of a key.
+    /// Returns the item of a key.
     pub(crate) fn item(&self, key: usize) -> Option<&Item>
         ensures { option_map (λ item. item.now) result ≡ queue_item self.now key }
     {
@@ -290,7 +291,7 @@ impl Queue {
         }
     }
 
-    /// The number of items.
+    /// Returns the number of items.
     pub(crate) fn len(&self) -> usize
         requires { IsQueue self.now }
         ensures { result ≡ length (items_in self.now) }
@@ -298,8 +299,8 @@ impl Queue {
         self.nodes.len()
     }
 
-    /// Takes the oldest item that is not deferred.
-    pub(crate) fn take_free(&mut self, holding: &Holding) -> Option<Item>
+    /// Removes and returns the oldest item that is not deferred.
+    pub(crate) fn take_free(&mut self, holding: &DeferralContext) -> Option<Item>
         requires { IsQueue self.old }
         ensures queue { IsQueue self.new }
         ensures first { result ≡ find (is_free holding.now) (items_in self.old) }

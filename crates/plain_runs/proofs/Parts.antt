@@ -27,7 +27,7 @@ use Rattle.channel_model.specs.Answers.{has_resolver, released}
 use Rattle.channel_model.specs.Ends.{End, NameContent, Naming, Packet, PromiseEntry, Resolver, StackEntry, actor, message, resolver}
 use Rattle.channel_model.specs.Falls.{abandoned, closed, deletes, fall_lines, fallen, passes, rejected, rejected_entry, rejections, why_deleted}
 use Rattle.channel_model.specs.Names.{held_by_name, holding, let_go, renamed, without_name, without_resolvers}
-use Rattle.channel_model.specs.Numbers.{top_id}
+use Rattle.ipdl_base.specs.Sides.{top_id}
 use Rattle.channel_model.specs.Outputs.{AnsweredRequest, Change, Output, answer_line, answered, beginning, body_of, destroyed, is_open, line, line_at, lines, on_end, put, reply_to, resolver_answered, unchanged, when, when_open, ◌▷◌}
 use Rattle.channel_model.specs.Sends.{built, constructs}
 use Rattle.channel_model.proofs.Known.{all-append}
@@ -61,7 +61,7 @@ IsPlainWhat w = plain_what w ≡ w
 abbrev pub StaysPlain : Change → Type 0
 StaysPlain change = (output : Output) → IsPlainOutput output → IsPlainOutput (change output)
 
--- an end that was plain is plain behind a change
+-- an end that was plain is plain after a change
 abbrev pub EndStays : (End → End) → Type 0
 EndStays change = (e : End) → IsPlainEnd e → IsPlainEnd (change e)
 

@@ -9,13 +9,13 @@ use Rattle.ipdl_base.specs.declared.kinds.Side.TheVariants as sides
 use Rattle.channel_model.specs.Ends.{Packet, mark}
 use Rattle.channel_model.specs.Events.{Event}
 use Rattle.channel_model.specs.Events as event
-use Rattle.channel_model.specs.Numbers.{other}
+use Rattle.ipdl_base.specs.Sides.{other}
 use Rattle.channel_model.specs.Outputs.{Output}
 use Rattle.channel_model.specs.Refusals.{DeliveryRefusal, packet_refusal}
 use Rattle.channel_model.proofs.Known.{all-append}
 use Rattle.script_steps.specs.Choices.{Setting}
 use Rattle.script_steps.specs.Progress.{progress_of}
-use Rattle.relay_runs.specs.HalfRuns.{HalfState, behind, behind_packet, delivered_for}
+use Rattle.relay_runs.specs.HalfRuns.{HalfState, after, after_packet, delivered_for}
 use Rattle.relay_runs.specs.RelaySteps.{IsRelay, RelayState, RelayStep, acts, gets, half_of, opening_relay, stays, steps, with_half}
 use Rattle.relay_runs.proofs.Sides.{by-sides, half-here, half-there}
 use Rattle.plain_runs.specs.Laws.{RelayLinesArePlain}
@@ -44,8 +44,8 @@ given-plain : (packet : Packet) (found : Option DeliveryRefusal) → IsPlainPack
 given-plain packet None h = h
 given-plain packet (Some refusal) h = tt
 
-behind-plain : (half : HalfState) (output : Output) → IsPlainHalf half → IsPlainOutput output → IsPlainHalf (behind half output)
-behind-plain half output h made = record {
+following-plain : (half : HalfState) (output : Output) → IsPlainHalf half → IsPlainOutput output → IsPlainHalf (after half output)
+following-plain half output h made = record {
   end = made.end;
   lines = lines-append half.lines output.lines h.lines made.lines;
   sent = all-append IsPlainPacket half.sent output.packets h.sent made.packets;
@@ -62,8 +62,8 @@ module _ (setting : Setting) where
   step-plain : (side : Side) (state next : RelayState) → RelayStep setting side state next → ArePlain state → ArePlain next
   step-plain side state _ (acts own output within is made) h =
       let half : HalfState = half_of side state in
-      put-in side (behind half output) state
-      (behind-plain half output (h side)
+      put-in side (after half output) state
+      (following-plain half output (h side)
       (steps_stay_plain setting.schema half.end [] own output made (h side).end tt (own-plain setting.script setting.stop half.end (progress_of side half.lines) own is)))
       h
   step-plain side state _ (gets packet output within idle opened is made) h =
@@ -71,11 +71,11 @@ module _ (setting : Setting) where
       let given : Packet = delivered_for setting.schema half.end packet in
       let sent : List Packet = (half_of (other side) state).sent in
       let p : IsPlainPacket packet = first-plain (drop (length half.came) sent) packet (later-plain (length half.came) sent (h (other side)).sent) is in
-      let out : IsPlainHalf (behind half output) =
-      behind-plain half output (h side)
+      let out : IsPlainHalf (after half output) =
+      following-plain half output (h side)
       (steps_stay_plain setting.schema half.end (given ∷ []) event.deliver output made (h side).end (given-plain packet (packet_refusal setting.schema half.end packet) p, tt) tt)
       in
-      put-in side (behind_packet half packet given output) state (record { end = out.end; lines = out.lines; sent = out.sent }) h
+      put-in side (after_packet half packet given output) state (record { end = out.end; lines = out.lines; sent = out.sent }) h
 
   begins : ArePlain (opening_relay setting)
   begins sides.Parent = record { end = opening-plain setting.script.top sides.Parent; lines = refl; sent = tt }

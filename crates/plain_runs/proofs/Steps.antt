@@ -30,7 +30,7 @@ use Rattle.nesting_core.specs.Plain.{plain_answer, plain_frame}
 use Rattle.pending_queue.specs.declared.item.Item.{Item}
 use Rattle.pending_queue.specs.declared.item.Item.TheVariants as item
 use Rattle.pending_queue.specs.Compression.{replaced, staying}
-use Rattle.pending_queue.specs.Holding.{is_free, without_first}
+use Rattle.pending_queue.specs.DeferralContext.{is_free, without_first}
 use Rattle.promise_table.specs.declared.promise.Outcome.{Outcome}
 use Rattle.promise_table.specs.declared.promise.Outcome.TheVariants.{Resolved, Rejected}
 use Rattle.promise_table.specs.Plain.{plain_outcome}
@@ -311,9 +311,9 @@ item-taken schema item.Broken p output h = closes AbnormalShutdown _ (one_line w
 takes : (schema : Schema) (x : Item) → IsPlainItem x → StaysPlain (take.take schema x)
 takes schema x p output h =
     item-taken schema x p _
-    (at_end (λ e. record e { arrived = without_first (is_free (take.holding_of e)) e.arrived })
+    (at_end (λ e. record e { arrived = without_first (is_free (take.deferral_context_of e)) e.arrived })
     (λ e k. record {
-      arrived = all-sublist IsPlainItem (without_first (is_free (take.holding_of e)) e.arrived) e.arrived (without_first-sublist (is_free (take.holding_of e)) e.arrived) k.arrived;
+      arrived = all-sublist IsPlainItem (without_first (is_free (take.deferral_context_of e)) e.arrived) e.arrived (without_first-sublist (is_free (take.deferral_context_of e)) e.arrived) k.arrived;
       stack = k.stack;
       promises = k.promises;
       outbox = k.outbox;
@@ -410,7 +410,7 @@ steps_stay_plain schema e link event.deliver output is h links p =
     (λ packet first made. provided-plain e output h (is_open e.state) (delivery.deliver schema packet) (delivers schema packet (first-plain link packet links first)) made) is
 steps_stay_plain schema e link event.take output is h links p =
     found-gives IsPlainOutput (take.taken_next e) (λ (x : Item). provided true (take.take schema x) e) output
-    (λ x next made. provided-plain e output h true (take.take schema x) (takes schema x (found-in IsPlainItem (is_free (take.holding_of e)) e.arrived x h.arrived (taken-first e x next)).0) made) is
+    (λ x next made. provided-plain e output h true (take.take schema x) (takes schema x (found-in IsPlainItem (is_free (take.deferral_context_of e)) e.arrived x h.arrived (taken-first e x next)).0) made) is
 steps_stay_plain schema e link (event.return vs) output is h links p =
     found-gives IsPlainOutput (return.dispatch_on_top e.stack)
     (λ (entry : StackEntry). option_and_then (λ (row : MessageRow). provided (return.may_return schema row vs) (return.return schema e row entry vs) e) (request_row schema entry.number)) output

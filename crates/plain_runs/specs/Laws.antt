@@ -18,7 +18,7 @@ StepsStayPlain =
     (schema : Schema) (e : End) (link : List Packet) (event : Event) (output : Output) → step schema e link event ≡ Some output
     → IsPlainEnd e → AllByRecursion IsPlainPacket link → IsPlainEvent event → IsPlainOutput output
 
--- What a script says to send is plain, so the lines of every run of a script are plain.
+-- What a script sends is plain, so the lines of every run of a script are plain.
 abbrev pub ScriptLinesArePlain : Type 0
 ScriptLinesArePlain = (setting : Setting) (choices : List Choice) (state : RunState) → played setting choices (beginning_of setting) ≡ Some state → ArePlainLines state.lines
 

@@ -1,4 +1,4 @@
--- Of the types of a schema each is defined or not: marks on those that are, one more as long as a row earns one.
+-- Each type of a schema is defined or is not: defined types get marks, one after another, as long as a row earns one.
 use Rattle.std.proofs.Common.{get_or, ◌≡◌, ◌⊎◌, inl, inr, ◌∙◌, ◌<◌, ◌≤◌, ◌+◌, ◌==◌, ℕ, zero, suc, Bool, true, false, true≢false, cond, List, length, Option, Some, None, slice_get, refl, sym, ap, subst, arith}
 use Rattle.std.specs.List.{list_any, list_all}
 use Rattle.std.proofs.lemmas.Bool.{cases_Bool, cases_eq, eq-eqb, ne_eqb}
@@ -32,11 +32,11 @@ row_earns marks (Some (Struct name fields)) = list_all (λ f. shape_earns marks 
 row_earns marks (Some (Union name components)) = list_any (shape_earns marks) components
 
 module _ (types : List TypeRow) where
-  -- what is marked is defined
+  -- a marked type is defined
   abbrev AreSound : Marks → Type 0
   AreSound marks = (t : ℕ) → marks t ≡ true → IsDefined types (Named t)
 
-  -- what a row earns has its mark
+  -- a row that earns a mark has it
   abbrev AreClosed : Marks → Type 0
   AreClosed marks = (t : ℕ) → row_earns marks (slice_get types t) ≡ true → marks t ≡ true
 
@@ -59,7 +59,7 @@ module _ (types : List TypeRow) where
       let found = any_place _ components (Any-from_list_any (shape_earns marks) components is) in
       union name components found.1 at (in_place components found.0 found.1 found.2) (shape_sound marks sound found.1 found.3)
 
-  -- closed marks are on all that is defined
+  -- all defined types have closed marks
   complete : (marks : Marks) → AreClosed marks → {s : Shape} → IsDefined types s → shape_earns marks s ≡ true
   complete marks closed builtin = refl
   complete marks closed using_type = refl
@@ -74,7 +74,7 @@ module _ (types : List TypeRow) where
       let place = place_in components component among in
       closed t (ap (row_earns marks) at ∙ list_any-from_Any (shape_earns marks) components (any_at _ components place.0 component place.1 (complete marks closed d)))
 
-  -- a number that earns a mark and has none, if there is one below a bound
+  -- a number below a bound that earns a mark and has no mark, if there is one
   find_earned : (marks : Marks) (n : ℕ) → ((t : ℕ) × (t < n) × (row_earns marks (slice_get types t) ≡ true) × (marks t ≡ false)) ⊎ ((t : ℕ) → t < n → row_earns marks (slice_get types t) ≡ true → marks t ≡ true)
   find_earned marks zero = inr (λ t below earned. absurd (omega arith))
   find_earned marks (suc n) = elim (find_earned marks n) [
@@ -91,7 +91,7 @@ module _ (types : List TypeRow) where
     ]
   ]
 
--- how many numbers below a bound have no mark
+-- the number of numbers below a bound without a mark
 
 lack : Bool → ℕ
 lack true = 0
@@ -161,7 +161,7 @@ module _ (types : List TypeRow) where
     | inr before ↦ sound u before
   ]
 
-  -- where no number below the count of types earns a mark, none does
+  -- if no number below the count of types earns a mark, no number does
   all_closed : (marks : Marks) → ((t : ℕ) → t < length types → row_earns marks (slice_get types t) ≡ true → marks t ≡ true) → AreClosed types marks
   all_closed marks none t earned = elim (slice_get_cases types t).1 [
     | inl found ↦ none t found.1 earned
@@ -186,7 +186,7 @@ module _ (types : List TypeRow) where
   unfolding no_marks
   none_sound t is = cc
 
-  -- what cannot be denied is so
+  -- a type that is not undefined is defined
   pub defined_undenied : (t : ℕ) → ¬ ¬ IsDefined types (Named t) → IsDefined types (Named t)
   defined_undenied t undenied =
       let final = settle (unmarked (length types) no_marks) no_marks none_sound (omega arith) in

@@ -31,11 +31,11 @@ use Rattle.program_schema.proofs.OneShape.{builtin_shape, using_shape, struct_sh
 use Rattle.program_schema.proofs.Unbroken.{some_and, struct_undenied, union_undenied}
 
 module _ (program : List Entry) (n : Numbering) (types : List TypeRow) (rows : AllZip (IsTypeRow program n) n.types types) where
-  -- behind suffixes a shape is defined where it is without them
+  -- with suffixes a shape is defined if it is without them
   with_suffixes : (after : List Suffix) (Holds : Shape → Type 0) → ((s : Shape) → Holds s → IsDefined types s) → (s : Shape) → IsSuffixed Holds after s → IsDefined types s
   with_suffixes = suffixes_keep (IsDefined types) (λ at s d. sound.array d) (λ at s d. sound.maybe d)
 
-  -- the type of a struct is defined where the shapes of its fields are
+  -- the type of a struct is defined if the shapes of its fields are
   struct_row_defined : (t file index : ℕ) (r : TypeRow) (s : StructDecl) → slice_get types t ≡ Some r → IsTypeRow program n (Struct file index) r → struct_of program file index ≡ Some s
       → ((field : Param) → Contains s.fields field → (u : Shape) → IsShapeOf program n file field.spec u → IsDefined types u) → IsDefined types (shape.Named t)
   struct_row_defined t file index (row.Union name components) s at is there each = absurd is
@@ -55,7 +55,7 @@ module _ (program : List Entry) (n : Numbering) (types : List TypeRow) (rows : A
       let r = row_of _ n.types types (rows_of _ 0 n.types types rows) t (Struct file index) at in
       struct_row_defined t file index r.0 s r.1 r.2 there each
 
-  -- the type of a union is defined where the shapes of one component are
+  -- the type of a union is defined if the shape of one component is
   union_row_defined : (t file index : ℕ) (r : TypeRow) (u : UnionDecl) (component : TypeSpec) → slice_get types t ≡ Some r → IsTypeRow program n (Union file index) r → union_of program file index ≡ Some u → Contains u.components component
       → ((s : Shape) → IsShapeOf program n file component s → IsDefined types s) → IsDefined types (shape.Named t)
   union_row_defined t file index (row.Struct name fields) u component at is there among each = absurd is
@@ -74,7 +74,7 @@ module _ (program : List Entry) (n : Numbering) (types : List TypeRow) (rows : A
       let r = row_of _ n.types types (rows_of _ 0 n.types types rows) t (Union file index) at in
       union_row_defined t file index r.0 u component r.1 r.2 there among each
 
-  -- what stands for no struct and no union is defined
+  -- a shape of neither a struct nor a union is defined
   atom_defined : (nullable : Bool) (d : DeclId) (s : Shape) → ¬ IsCompound d → IsShapeOfDecl program n nullable d s → IsDefined types s
   atom_defined nullable (Builtin type) s plain is = subst (IsDefined types) (sym (builtin_shape program n nullable type s is)) sound.builtin
   atom_defined nullable (Using file index) s plain is = subst (IsDefined types) (sym (using_shape program n nullable file index s is).1) sound.using_type

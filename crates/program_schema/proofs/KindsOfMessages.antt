@@ -1,4 +1,4 @@
--- The kinds of messages in a schema are those that their names give.
+-- The kinds of messages in a schema are those that their names determine.
 use Rattle.std.proofs.Common.{◌≡◌, ◌∙◌, inl, inr, ℕ, Bool, true, false, true≢false, ◌&&◌, List, [], ◌∷◌, Some, None, option_map, codes, slice_get, bytes_eq, nat_le, refl, sym, ap, subst}
 use Rattle.std.specs.Prelude.{if◌then◌else◌}
 use Rattle.std.specs.List.{AllZip, Contains, list_any, list_all}
@@ -49,7 +49,7 @@ word_bytes (b ∷ bs) is =
 pub word_short : (text : List ℕ) → IsWord text → short_name text ≡ text
 word_short text is = short_name-whole text (no_colons text (word_bytes text is))
 
--- What a word finds has that word for its short name
+-- A declaration that a word finds has the word as its short name
 
 short_of_named : (text full : List ℕ) → IsWord text → IsNameOf text None full → short_name full ≡ text
 short_of_named text full is (inl named) = ap short_name named.0 ∙ word_short text is
@@ -66,7 +66,7 @@ found_short program file other text q is finds there =
     let same : q.full ≡ seen.0 = cc in
     ap short_name same ∙ short_of_named text seen.0 is seen.2
 
--- What the tests say that give a kind
+-- The meaning of the tests that give a kind
 
 abbrev by_tests : Bool → Bool → MessageKind
 by_tests delete managed = if delete then kind.Destructor else (if managed then kind.Constructor else kind.Normal)

@@ -1,4 +1,4 @@
--- Lists: members by their places, lists in order, and lists that stand side by side.
+-- Lists: members by their indices, lists in order, and lists of the same length.
 use Rattle.std.proofs.Common.{◌≡◌, inl, inr, ◌∙◌, ◌<◌, ◌+◌, ℕ, zero, suc, List, [], ◌∷◌, length, map, get_or, Some, slice_get, zero-add, refl, sym, ap, subst, arith}
 use Rattle.std.specs.List.{AllByRecursion, AllPairs, AllZip, Any, Contains}
 use Rattle.std.proofs.lemmas.List.Elements.{All-contains, All-from_recursion}
@@ -7,7 +7,7 @@ use Rattle.std.proofs.lemmas.Option.{slice_get-get_or, slice_get_within, get_or_
 use Rattle.name_table.proofs.Order.{in_front, in_tail, in_cons, in_none}
 use Rattle.program_schema.specs.SchemaOf.{AreRows}
 
--- Members by their places
+-- Members by their indices
 
 pub place_in : {X : Type 0} (xs : List X) (x : X) → Contains xs x → (k : ℕ) × (slice_get xs k ≡ Some x)
 place_in xs x (k, within, at) = (k, slice_get-get_or xs k x within ∙ ap Some at)
@@ -21,7 +21,7 @@ any_place P xs (k, x, within, at, holds) = (k, x, slice_get-get_or xs k x within
 pub any_at : {X : Type 0} (P : X → Type 0) (xs : List X) (k : ℕ) (x : X) → slice_get xs k ≡ Some x → P x → Any P xs
 any_at P xs k x at holds = (k, x, slice_get_within xs k x at, get_or_from_slice_get xs k x x at, holds)
 
--- what holds of each, holds of what stands at a place
+-- a property of all elements holds of the one at an index
 pub holds_at : {X : Type 0} (P : X → Type 0) (xs : List X) (k : ℕ) (x : X) → AllByRecursion P xs → slice_get xs k ≡ Some x → P x
 holds_at P xs k x all at = All-contains P xs x (All-from_recursion P xs all) (in_place xs k x at)
 
@@ -31,7 +31,7 @@ pub pair_at : {X : Type 0} (R : X → X → Type 0) (xs : List X) (i j : ℕ) (x
 pair_at R xs i j x y ordered before p q =
     subst (λ z. R z y) (get_or_from_slice_get xs i x x p) (subst (R (get_or xs i x)) (get_or_from_slice_get xs j y x q) (ordered i j x before (slice_get_within xs j y q)))
 
--- what does not stand before itself stands at one place
+-- an element that is not before itself is at one index
 pub one_place : {X : Type 0} (R : X → X → Type 0) (xs : List X) (x : X) (i j : ℕ) → AllPairs R xs → ¬ R x x → slice_get xs i ≡ Some x → slice_get xs j ≡ Some x → i ≡ j
 one_place R xs x i j ordered never p q = elim (cases_order i j) [
   | inl same ↦ same
@@ -52,15 +52,15 @@ module _ {X : Type 0} (R : X → X → Type 0) (Good : X → Type 0) (apart : (x
   same_first : (x : X) (xs : List X) (y : X) (ys : List X) → Good x → Good y → AllPairs R (x ∷ xs) → AllPairs R (y ∷ ys) → Contains (y ∷ ys) x → Contains (x ∷ xs) y → x ≡ y
   same_first x xs y ys good other p q there back = elim (in_cons y ys x there) [
     | inl same ↦ same
-    | inr behind ↦ elim (in_cons x xs y back) [
+    | inr following ↦ elim (in_cons x xs y back) [
       | inl same ↦ sym same
-      | inr after ↦ absurd (apart x y good other (below_first R x xs y p after) (below_first R y ys x q behind))
+      | inr after ↦ absurd (apart x y good other (below_first R x xs y p after) (below_first R y ys x q following))
     ]
   ]
 
   in_rest : (x : X) (xs : List X) (y : X) (ys : List X) → Good x → x ≡ y → AllPairs R (x ∷ xs) → (z : X) → Contains (y ∷ ys) z → Contains xs z → Contains ys z
-  in_rest x xs y ys good same p z there behind = elim (in_cons y ys z there) [
-    | inl is ↦ absurd (let self : R x x = subst (R x) (is ∙ sym same) (below_first R x xs z p behind) in apart x x good good self self)
+  in_rest x xs y ys good same p z there following = elim (in_cons y ys z there) [
+    | inl is ↦ absurd (let self : R x x = subst (R x) (is ∙ sym same) (below_first R x xs z p following) in apart x x good good self self)
     | inr among ↦ among
   ]
 
@@ -89,7 +89,7 @@ rows_length R index [] (y ∷ ys) are = absurd are
 rows_length R index (x ∷ xs) [] are = absurd are
 rows_length R index (x ∷ xs) (y ∷ ys) are = ap suc (rows_length R (index + 1) xs ys are.1)
 
--- what has the row at a place
+-- the element that has the row at an index
 had_from : {X Y : Type 0} (R : ℕ → X → Y → Type 0) (index : ℕ) (xs : List X) (ys : List Y) → AreRows R index xs ys → (k : ℕ) (y : Y) → slice_get ys k ≡ Some y → (x : X) × (slice_get xs k ≡ Some x) × R (index + k) x y
 had_from R index [] [] are k y at = cc
 had_from R index [] (y ∷ ys) are k z at = absurd are
@@ -104,7 +104,7 @@ had_from R index (x ∷ xs) (y ∷ ys) are (suc k) z at =
 pub row_had : {X Y : Type 0} (R : ℕ → X → Y → Type 0) (xs : List X) (ys : List Y) → AreRows R 0 xs ys → (k : ℕ) (y : Y) → slice_get ys k ≡ Some y → (x : X) × (slice_get xs k ≡ Some x) × R k x y
 row_had R xs ys are k y at = let there = had_from R 0 xs ys are k y at in (there.0, there.1, subst (λ n. R n there.0 y) (zero-add k) there.2)
 
--- the row of what stands at a place
+-- the row of the element at an index
 row_from : {X Y : Type 0} (R : ℕ → X → Y → Type 0) (index : ℕ) (xs : List X) (ys : List Y) → AreRows R index xs ys → (k : ℕ) (x : X) → slice_get xs k ≡ Some x → (y : Y) × (slice_get ys k ≡ Some y) × R (index + k) x y
 row_from R index [] [] are k x at = cc
 row_from R index [] (y ∷ ys) are k x at = absurd are
@@ -119,7 +119,7 @@ row_from R index (x ∷ xs) (y ∷ ys) are (suc k) z at =
 pub row_of : {X Y : Type 0} (R : ℕ → X → Y → Type 0) (xs : List X) (ys : List Y) → AreRows R 0 xs ys → (k : ℕ) (x : X) → slice_get xs k ≡ Some x → (y : Y) × (slice_get ys k ≡ Some y) × R k x y
 row_of R xs ys are k x at = let there = row_from R 0 xs ys are k x at in (there.0, there.1, subst (λ n. R n x there.0) (zero-add k) there.2)
 
--- where each has one row, up to what is looked at, so has a list
+-- if each element has one row, up to what is looked at, then a list has one list of rows
 pub same_rows : {X Y Z : Type 0} (look : Y → Z) (R S : ℕ → X → Y → Type 0) → ((n : ℕ) (x : X) (a b : Y) → R n x a → S n x b → look a ≡ look b) → (index : ℕ) (xs : List X) (us vs : List Y) → AreRows R index xs us → AreRows S index xs vs → map look us ≡ map look vs
 same_rows look R S one index [] [] [] p q = refl
 same_rows look R S one index [] [] (v ∷ vs) p q = absurd q
@@ -131,7 +131,7 @@ same_rows look R S one index (x ∷ xs) (u ∷ us) (v ∷ vs) p q =
     let others = same_rows look R S one (index + 1) xs us vs p.1 q.1 in
     cc
 
--- of lists that look alike, what stands at a place has one at that place that looks like it
+-- in lists that look alike, the elements at an index look alike
 pub alike_at : {Y Z : Type 0} (look : Y → Z) (us vs : List Y) → map look us ≡ map look vs → (k : ℕ) (u : Y) → slice_get us k ≡ Some u → (v : Y) × (slice_get vs k ≡ Some v) × (look v ≡ look u)
 alike_at look [] vs same k u at = cc
 alike_at look (u ∷ us) [] same k w at = cc

@@ -1,4 +1,4 @@
--- The numbers in a schema: few protocols, and each number stands for one.
+-- The numbers in a schema: few protocols, and each number is that of one.
 use Rattle.std.proofs.Common.{◌≡◌, ◌∙◌, ◌<◌, ◌≤◌, ℕ, Bool, true, List, [], ◌∷◌, length, get_or, eqb, Some, IsSome, slice_get, sym, ap, subst, arith}
 use Rattle.std.specs.List.{All, AllZip, IsDistinct}
 use Rattle.std.proofs.lemmas.Bool.{eqb-true, false_from_ne_true}
@@ -56,7 +56,7 @@ few_files program n are each few =
 
 -- Suffixes
 
--- what holds of shapes and passes to arrays and maybes, holds behind suffixes
+-- a property of shapes that passes to arrays and maybes holds with suffixes
 pub suffixes_keep : (P : Shape → Type 0) → ((at : _) (s : Shape) → P s → P (shape.Array' at s)) → ((at : _) (s : Shape) → P s → P (shape.Maybe' at s))
     → (after : List Suffix) (Holds : Shape → Type 0) → ((s : Shape) → Holds s → P s) → (s : Shape) → IsSuffixed Holds after s → P s
 suffixes_keep P array maybe [] Holds keeps s is = keeps s is

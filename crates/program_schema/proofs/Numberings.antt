@@ -1,4 +1,4 @@
--- A program has one numbering, and in it what has a number has one.
+-- A program has one numbering, and in it nothing has two numbers.
 use Rattle.std.proofs.Common.{◌≡◌, ◌∙◌, ℕ, List, Option, Some, None, IsSome, slice_get, refl, sym, ap, Ordering, Less}
 use Rattle.std.specs.Cmp.{IsTotalOrder}
 use Rattle.std.specs.Ordering.{nat_cmp, ordering_reverse, ordering_then}
@@ -38,7 +38,7 @@ one_number_of_file program files are a b file p q =
     let is = (are.exact file).0 (in_place files a file p) in
     one_place (IsNamedBefore program) files file a b are.ordered (λ before. files_apart program file file is is before before) p q
 
--- structs and unions by where they stand
+-- the order of structs and unions by their places
 declared_cmp : Place × DeclId → Place × DeclId → Ordering
 declared_cmp a b = ordering_then (place_cmp a.0 b.0) (ordering_then (nat_cmp (list_number a.1) (list_number b.1)) (nat_cmp (index_of a.1) (index_of b.1)))
 

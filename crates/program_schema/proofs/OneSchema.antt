@@ -71,7 +71,7 @@ same_schema a b p q =
     let same : schema_of (map plain_protocol_row a.protocols) (map plain_type_row a.types) ≡ schema_of (map plain_protocol_row b.protocols) (map plain_type_row b.types) = cc in
     same
 
--- a test that tells the same of two things
+-- a test with the same meaning for two things
 one_test : (a b : Bool) (P Q : Type 0) → (P → Q) → (Q → P) → IsTrue a ↔ ¬ P → IsTrue b ↔ ¬ Q → a ≡ b
 one_test true true P Q to back p q = refl
 one_test true false P Q to back p q = absurd (true≢false (sym (q.1 (λ h. p.0 refl (back h)))))
@@ -180,7 +180,7 @@ module _ (program : List Entry) (n : Numbering) (each : HasOneNumberEach n) wher
 abbrev IsRowOfFile : List Entry → Numbering → List TypeRow → ℕ → ℕ → ProtocolRow → Type 0
 IsRowOfFile program n types number file row = IsSomeAnd (protocol_of program file) (λ p. IsProtocolRow program n types number file p row)
 
--- what a schema is beside a numbering
+-- a schema with a numbering
 abbrev IsNumberedSchema : List Entry → Numbering → Schema → Type 0
 IsNumberedSchema program n schema = AreRows (IsRowOfFile program n schema.types) 0 n.files schema.protocols × AllZip (IsTypeRow program n) n.types schema.types
 

@@ -16,7 +16,7 @@ use Rattle.program_schema.specs.Numbers.{Numbering, IsProtocolNumber, IsTypeNumb
 use Rattle.program_schema.specs.Shapes.{IsShapeOfDecl, IsSuffixedBy, IsSuffixed, IsUnique, IsShapeOfBase, IsShapeOf}
 use Rattle.program_schema.proofs.Numberings.{HasOneNumberEach}
 
--- What a declaration stands for
+-- The shape of a declaration
 
 module _ (program : List Entry) (n : Numbering) (nullable : Bool) where
   pub builtin_shape : (type : BuiltinType) (s : Shape) → IsShapeOfDecl program n nullable (Builtin type) s → s ≡ shape.Builtin type

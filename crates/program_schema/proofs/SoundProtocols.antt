@@ -26,7 +26,7 @@ at_some : {X : Type 0} (o : Option X) (P : X → Type 0) (x : X) → IfSome o P 
 at_some None P x holds is = cc
 at_some (Some y) P x holds is = let same : y ≡ x = cc in subst P same holds
 
--- what is different at any two places, is so pairwise
+-- elements that differ at any two indices differ pairwise
 pairwise : {X : Type 0} (R : X → X → Type 0) (xs : List X) → ((i j : ℕ) (x y : X) → i < j → slice_get xs i ≡ Some x → slice_get xs j ≡ Some y → R x y) → AllPairs R xs
 pairwise R xs apart i j d before within = apart i j (get_or xs i d) (get_or xs j d) before (slice_get-get_or xs i d (omega arith)) (slice_get-get_or xs j d within)
 
@@ -63,7 +63,7 @@ module _ (program : List Entry) (schema : Schema) (clean : IsClean program) (is 
         distinct = messages_distinct number had.0 p.0 row p.1 p.2;
       }
 
-  -- files of two places have protocols of two short names
+  -- files at two indices have protocols with different short names
   files_apart : (x y : ℕ) (p q : ProtocolDecl) → x ≢ y → protocol_of program x ≡ Some p → protocol_of program y ≡ Some q → short_name p.full ≢ short_name q.full
   files_apart x y p q differ there other same =
       let e = entry_with program x (λ e. e.unit.protocol) p there in

@@ -20,7 +20,7 @@ use Rattle.type_rules.specs.Defined.{IsDefinedStruct, IsDefinedUnion, IsUndefine
 use Rattle.program_schema.specs.Clean.{IsClean}
 use Rattle.program_schema.proofs.Lists.{any_at, in_place}
 
--- what is there, and of which something holds
+-- a value that is there, with a property
 pub some_and : {X : Type 0} (o : Option X) (P : X → Type 0) → IsSomeAnd o P → (x : X) × (o ≡ Some x) × P x
 some_and None P holds = absurd holds
 some_and (Some x) P holds = (x, refl, holds)
@@ -28,7 +28,7 @@ some_and (Some x) P holds = (x, refl, holds)
 pub and_some : {X : Type 0} (o : Option X) (P : X → Type 0) (x : X) → o ≡ Some x → P x → IsSomeAnd o P
 and_some o P x is holds = subst (λ q. IsSomeAnd q P) (sym is) holds
 
--- what is looked up in a file of the program stands in the file's entry
+-- what is looked up in a file of the program is in the file's entry
 pub entry_with : {X : Type 0} (program : List Entry) (file : ℕ) (part : Entry → Option X) (x : X) → option_and_then part (slice_get program file) ≡ Some x → (e : Entry) × (slice_get program file ≡ Some e) × (part e ≡ Some x)
 entry_with program file part x at = go (slice_get program file) refl at
   where

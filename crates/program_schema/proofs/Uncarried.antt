@@ -13,7 +13,7 @@ use Rattle.ipdl_base.specs.declared.schema.TypeRow.TheVariants.{Struct, Union}
 use Rattle.program_schema.specs.Laws.{plain_param_row, plain_type_row}
 use Rattle.program_schema.proofs.Lists.{place_in, in_place, any_place, any_at, alike_at}
 
--- what the plain form tells of a shape
+-- what the plain form means for a shape
 
 like_builtin : (type : BuiltinType) (s : Shape) → plain_shape s ≡ Builtin type → s ≡ Builtin type
 like_builtin type (Builtin other) is = is
@@ -51,7 +51,7 @@ like_union name components (Union other others) is =
     (others, ap (λ (text : List ℕ). Union text others) same, cc)
 like_union name components (Struct other others) is = cc
 
--- of lists that look alike, one has what looks like a member of the other
+-- in lists that look alike, each member of one has a member of the other that looks like it
 alike_in : {Y Z : Type 0} (look : Y → Z) (us vs : List Y) → map look us ≡ map look vs → (u : Y) → Contains us u → (v : Y) × Contains vs v × (look v ≡ look u)
 alike_in look us vs same u among =
     let place = place_in us u among in

@@ -1,4 +1,5 @@
--- The schema of a worked program: a protocol that manages another, and a header with a struct. Neighbours of it that differ in one part are none.
+-- The schema of a worked program: a protocol that manages another, and a header with a struct. Variants of it that
+-- differ in one part are not its schema.
 use Rattle.std.proofs.Common.{◌≡◌, ◌∙◌, ◌⊎◌, inl, inr, ℕ, zero, suc, true, false, leb, List, [], ◌∷◌, map, length, Option, Some, None, IsSome, slice_get, bytes_eq, codes, ◌==◌, refl, sym, ap, subst, arith, Less}
 use Rattle.std.specs.List.{AllPairs, Any, Contains, list_any}
 use Rattle.std.specs.Cmp.Lexicographic.{slice_cmp}
@@ -133,7 +134,7 @@ files_ordered (suc i) j d before within = absurd (omega arith)
 with_protocol : (file : ℕ) → Contains (1 ∷ 0 ∷ []) file → IsSome (protocol_of program file)
 with_protocol file among = elim (in_cons 1 (0 ∷ []) file among) [
   | inl same ↦ subst (λ f. IsSome (protocol_of program f)) (sym same) refl
-  | inr behind ↦ elim (in_cons 0 [] file behind) [
+  | inr following ↦ elim (in_cons 0 [] file following) [
     | inl same ↦ subst (λ f. IsSome (protocol_of program f)) (sym same) refl
     | inr none ↦ absurd (in_none file none)
   ]
@@ -171,7 +172,7 @@ numbering = record { files = 1 ∷ 0 ∷ []; types = Struct 2 0 ∷ [] }
 
 -- What names find
 
--- the three declarations of the program, each with its full name, of which something holds
+-- one of the three declarations of the program, with its full name, has a property
 abbrev OfThree : (DeclId → List ℕ → Type 0) → DeclId → List ℕ → Type 0
 OfThree Holds d full =
     ((d ≡ Protocol 0) × Holds d (codes "PB")) ⊎ (((d ≡ Protocol 1) × Holds d (codes "N::PA")) ⊎ ((d ≡ Struct 2 0) × Holds d (codes "N::S")))
@@ -197,7 +198,7 @@ declared (Using (suc (suc (suc k))) index) full is = cc
 declared (Builtin type) full is = cc
 declared (Endpoint file flag) full is = cc
 
--- a name that neither a full name nor its short name is, names nothing of that full name
+-- a name that is neither a full name nor its short name does not name a declaration of this full name
 pub no_name : (text full : List ℕ) → bytes_eq full text ≡ false → bytes_eq (short_name full) text ≡ false → ¬ IsNameOf text None full
 no_name text full one other (inl named) = not_from_Decides (bytes_eq full text) (bytes_eq-Decides full text) one named.0
 no_name text full one other (inr named) = not_from_Decides (bytes_eq (short_name full) text) (bytes_eq-Decides (short_name full) text) other named.1
@@ -205,7 +206,7 @@ no_name text full one other (inr named) = not_from_Decides (bytes_eq (short_name
 no_open : (xs : List ℕ) → list_any (λ b. b == 60) xs ≡ false → ¬ Contains xs 60
 no_open xs none among = true≢false (sym (contains_any 60 xs among) ∙ none)
 
--- what is seen under a name is one of the three
+-- a declaration that is seen under a name is one of the three
 find_cases : (file : ℕ) (text : List ℕ) (d : DeclId) (full : List ℕ) → Sees program file d full → IsNameOf text None full
     → ((d ≡ Protocol 0) × IsNameOf text None (codes "PB")) ⊎ (((d ≡ Protocol 1) × IsNameOf text None (codes "N::PA")) ⊎ ((d ≡ Struct 2 0) × IsNameOf text None (codes "N::S")))
 find_cases file text d full seen named = elim (declared d full (sees_shown program seen).1) [
@@ -399,7 +400,7 @@ is_schema = record {
   types = ((refl, (record { name = refl; shape = (Builtin builtin.Int32, finds_int, refl) }, tt)), tt);
 }
 
--- Neighbours: by the law, what differs from the schema in more than its boxes is none
+-- Variants: by the law, what differs from the schema in more than its boxes is not the schema
 
 first_name : Schema → List ℕ
 first_name s = elim s.protocols [ [] ↦ [] | p ∷ rest ↦ p.name ]

@@ -23,7 +23,7 @@ use Rattle.name_table.specs.Kinds.{IsKindOf, compress_of_message, is_lazy_messag
 use Rattle.program_schema.specs.Numbers.{Numbering, IsProtocolNumber, AreProtocolFiles, AreTypes}
 use Rattle.program_schema.specs.Shapes.{IsShapeOf}
 
--- each of these has its row in its place, told apart by indices from this one on
+-- each of these has its row at its index, counted from this one on
 abbrev pub AreRows : {X Y : Type 0} → (ℕ → X → Y → Type 0) → ℕ → List X → List Y → Type 0
 AreRows IsRow index [] [] = Unit {0}
 AreRows IsRow index (x ∷ xs) (y ∷ ys) = IsRow index x y × AreRows IsRow (index + 1) xs ys
@@ -37,7 +37,7 @@ pub record IsParamRow (program : List Entry) (n : Numbering) (file : ℕ) (p : P
 abbrev pub AreParamRows : List Entry → Numbering → ℕ → List Param → List ParamRow → Type 0
 AreParamRows program n file = AllZip (IsParamRow program n file)
 
--- the rows of returns, where there are returns
+-- the rows of returns, if there are returns
 abbrev pub AreReturnRows : List Entry → Numbering → ℕ → Option (List Param) → Option (List ParamRow) → Type 0
 AreReturnRows program n file None None = Unit {0}
 AreReturnRows program n file (Some params) (Some rows) = AreParamRows program n file params rows
@@ -47,13 +47,13 @@ AreReturnRows program n file _ _ = ⊥
 abbrev pub IsNumberOfName : List Entry → Numbering → ℕ → List ℕ → ℕ → Type 0
 IsNumberOfName program n file name number = (other : ℕ) × FindsOneProtocol program file name other × IsProtocolNumber n number other
 
--- the kind of a message, for a constructor with the number of the protocol that its name finds
+-- the kind of a message; that of a constructor has the number of the protocol that its name finds
 abbrev pub IsRowKind : List Entry → Numbering → ℕ → ProtocolDecl → MessageDecl → Kind → Type 0
 IsRowKind program n file p m Normal = IsKindOf p m kind.Normal
 IsRowKind program n file p m (Constructor number) = IsKindOf p m kind.Constructor × IsNumberOfName program n file m.name number
 IsRowKind program n file p m Delete = IsKindOf p m kind.Destructor
 
--- The row of the message at an index of the protocol that has this number and stands in this file, beside these rows of types.
+-- The row of the message at an index of the protocol with this number in this file, by these rows of types.
 pub record IsMessageRow (program : List Entry) (n : Numbering) (types : List TypeRow) (number file : ℕ) (p : ProtocolDecl) (index : ℕ) (m : MessageDecl) (row : MessageRow) : Type 0 where
   pub number_is : row.number ≡ number * 65536 + 2 * index
   pub name : row.name ≡ m.name
@@ -84,8 +84,8 @@ IsTypeRow program n (Union file index) (row.Union name components) =
     IsSomeAnd (union_of program file index) (λ u. (name ≡ u.full) × AllZip (IsShapeOf program n file) u.components components)
 IsTypeRow program n _ _ = ⊥
 
--- The schema of a program: a row for each of its protocols, by the order of their full names, and for each of its structs and
--- unions, by the order of the text.
+-- The schema of a program: a row for each of its protocols, in the order of their full names, and for each of its
+-- structs and unions, in text order.
 pub record IsSchemaOf (program : List Entry) (schema : Schema) : Type 0 where
   pub numbering : Numbering
   pub files : AreProtocolFiles program numbering.files

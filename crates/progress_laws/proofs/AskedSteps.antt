@@ -32,7 +32,7 @@ use Rattle.channel_model.specs.Falls.{passes, rejected, rejected_entry}
 use Rattle.channel_model.specs.Numbers.{request_row, is_sync_row, makes_promise}
 use Rattle.channel_model.specs.Outputs.{AnsweredRequest, is_open, body_of, reply_to, resolver_answered}
 use Rattle.channel_model.specs.Parts
-use Rattle.channel_model.specs.Parts.{FirstPart, LaterPart, LaterParts, OwnParts, DeliveryPart, abandoned_end, behind_outbox, reply_packets, end_behind, left_end, is_settling, promise_for, outbox_after, request_packets}
+use Rattle.channel_model.specs.Parts.{FirstPart, LaterPart, LaterParts, OwnParts, DeliveryPart, abandoned_end, after_outbox, reply_packets, end_after, left_end, is_settling, promise_for, outbox_after, request_packets}
 use Rattle.channel_model.specs.Phases.{Phase}
 use Rattle.channel_model.specs.Returns as return
 use Rattle.channel_model.specs.Requests.{promise_seq}
@@ -44,7 +44,7 @@ use Rattle.channel_model.proofs.StepParts.{EachPartKeeps}
 use Rattle.channel_model.proofs.Tests.{and-left, and-right}
 use Rattle.channel_laws.specs.Notes.{In, here, there}
 use Rattle.channel_laws.proofs.ArrivalParts.{staying-all, taken-first}
-use Rattle.channel_laws.proofs.Growing.{in-before, in-behind, in-all}
+use Rattle.channel_laws.proofs.Growing.{in-before, in-following, in-all}
 use Rattle.channel_laws.proofs.Replacing.{Replaces, replaced-taken, is_request_item, alike-request}
 use Rattle.channel_laws.proofs.Rows.{request-message, sound_schemas_have_sound_rows}
 use Rattle.progress_laws.specs.Promises.{resolver_for, BringsResolver, AnswersFor}
@@ -78,9 +78,9 @@ module _ (schema : Schema) where
       by true = h.0
       by false = h.0
 
-  behind-rows : (b : Bool) (e : End) → HaveRows e.promises → HaveRows (end_behind b e).promises
-  behind-rows true e h = h
-  behind-rows false e h = h
+  following-rows : (b : Bool) (e : End) → HaveRows e.promises → HaveRows (end_after b e).promises
+  following-rows true e h = h
+  following-rows false e h = h
 
   used-rows : (by : Answering) (e : End) → HaveRows e.promises → HaveRows (answers.without_resolver by e).promises
   used-rows (handled seq) e h = h
@@ -100,12 +100,12 @@ module _ (schema : Schema) where
   first-rows (Parts.dies open_is) h = h
   first-rows (Parts.dies_silent open_is alive) h = h
   first-rows (Parts.takes m sync level row vs next body found stays) h = h
-  first-rows {e} (Parts.drops m sync level row vs id replies next body found gone is) h = behind-rows replies (left_end e) h
+  first-rows {e} (Parts.drops m sync level row vs id replies next body found gone is) h = following-rows replies (left_end e) h
   first-rows (Parts.drops_unknown m sync level vs next body none) h = h
   first-rows (Parts.takes_reply m sync level a next body late) h = h
   first-rows {e} (Parts.settles m sync level row a next body found is) h = settled-rows m.seq _ e.promises h
   first-rows (Parts.shuts last next is) h = h
-  first-rows {e} (Parts.returns entry row vs told lost returns t l) h = behind-rows lost (end_behind told (record e { stack = drop 1 e.stack })) (behind-rows told (record e { stack = drop 1 e.stack }) h)
+  first-rows {e} (Parts.returns entry row vs told lost returns t l) h = following-rows lost (end_after told (record e { stack = drop 1 e.stack })) (following-rows told (record e { stack = drop 1 e.stack }) h)
   first-rows (Parts.resumes wait row on_top found) h = h
 
   later-rows : {p q : Phase} {e f : End} {ws : List What} {ps : List Packet} → LaterPart p e ws ps f q → PromisesHaveRows schema e → PromisesHaveRows schema f
@@ -120,7 +120,7 @@ module _ (schema : Schema) where
 
   delivery-rows : {packet : Packet} {p : Phase} {e f : End} {ws : List What} {ps : List Packet} → DeliveryPart schema packet e ws ps f p → PromisesHaveRows schema e → PromisesHaveRows schema f
   delivery-rows (Parts.gets_request m row vs body found none) h = h
-  delivery-rows {e} (Parts.replaces m row vs old sync level replies body found rep is) h = behind-rows replies (delivery.counted row (delivery.item_of row m) e) h
+  delivery-rows {e} (Parts.replaces m row vs old sync level replies body found rep is) h = following-rows replies (delivery.counted row (delivery.item_of row m) e) h
   delivery-rows (Parts.gets_answer m row a body found sync) h = h
   delivery-rows (Parts.gets_reply m row a body found async) h = h
   delivery-rows (Parts.drains packet is) h = h
@@ -186,8 +186,8 @@ asked-more r ps qs grow h = record { request = h.request; sent = grow (message h
 abbrev pub IsAtOrAsked : End → List Packet → Resolver → Type 0
 IsAtOrAsked f ps r = IsAtAsker f.outbox f.arrived r ⊎ IsAsked r ps
 
--- A promise that is pending after a part was there before, and what was at the end is there still, or the request is sent; or
--- the promise is new, and its request is kept back or sent.
+-- A promise that is pending after a part was there before, and what was at the end is still there, or the request is
+-- sent; or the promise is new, and its request is kept back or sent.
 pub data IsAskedBy (e : End) (ps : List Packet) (f : End) (entry : PromiseEntry) : Type 0 where
   before : In entry e.promises → (IsAtAsker e.outbox e.arrived (resolver_for entry) → IsAtOrAsked f ps (resolver_for entry)) → IsAskedBy e ps f entry
   anew : IsAtOrAsked f ps (resolver_for entry) → IsAskedBy e ps f entry
@@ -200,23 +200,23 @@ put-asks : (outbox : List Message) (arrived : List Item) (packet : Packet) (r : 
 put-asks outbox arrived packet r (held_back m i brings) = inr (record { request = m; sent = in-before (packet ∷ []) (in-map message i); brings = brings })
 put-asks outbox arrived packet r (come_back m sync level i answers) = inl (come_back m sync level i answers)
 
--- so with an answer, where there is one
-reply-asks : (b : Bool) (e f : End) (q : AnsweredRequest) (a : Answer) (r : Resolver) → f.outbox ≡ e.outbox → IsAtAsker f.outbox f.arrived r → IsAtOrAsked (end_behind b f) (reply_packets b e q a) r
+-- the same with an answer, if there is one
+reply-asks : (b : Bool) (e f : End) (q : AnsweredRequest) (a : Answer) (r : Resolver) → f.outbox ≡ e.outbox → IsAtAsker f.outbox f.arrived r → IsAtOrAsked (end_after b f) (reply_packets b e q a) r
 reply-asks true e f q a r same h = put-asks e.outbox f.arrived (Parts.reply_packet q a) r (subst (λ (ms : List Message). IsAtAsker ms f.arrived r) same h)
 reply-asks false e f q a r same h = inl h
 
-behind-promises : (b : Bool) (e : End) (entry : PromiseEntry) → In entry (end_behind b e).promises → In entry e.promises
-behind-promises true e entry i = i
-behind-promises false e entry i = i
+following-promises : (b : Bool) (e : End) (entry : PromiseEntry) → In entry (end_after b e).promises → In entry e.promises
+following-promises true e entry i = i
+following-promises false e entry i = i
 
-behind-outbox : (b : Bool) (e f : End) → f.outbox ≡ e.outbox → (end_behind b f).outbox ≡ (end_behind b e).outbox
-behind-outbox true e f same = refl
-behind-outbox false e f same = same
+following-outbox : (b : Bool) (e f : End) → f.outbox ≡ e.outbox → (end_after b f).outbox ≡ (end_after b e).outbox
+following-outbox true e f same = refl
+following-outbox false e f same = same
 
 -- one part, and then another
 chain-asks : (f g : End) (ps qs : List Packet) (r : Resolver) → IsAtOrAsked f ps r → (IsAtAsker f.outbox f.arrived r → IsAtOrAsked g qs r) → IsAtOrAsked g (ps ++ qs) r
 chain-asks f g ps qs r (inr h) k = inr (asked-more r ps (ps ++ qs) (λ packet i. in-before qs i) h)
-chain-asks f g ps qs r (inl h) k = elim (k h) [ inl at ↦ inl at | inr asked ↦ inr (asked-more r qs (ps ++ qs) (λ packet i. in-behind ps i) asked) ]
+chain-asks f g ps qs r (inl h) k = elim (k h) [ inl at ↦ inl at | inr asked ↦ inr (asked-more r qs (ps ++ qs) (λ packet i. in-following ps i) asked) ]
 
 asks-chain : (e f g : End) (ps qs : List Packet) → Asks e ps f → Asks f qs g → Asks e (ps ++ qs) g
 asks-chain e f g ps qs a b entry i pending = by (b entry i pending)
@@ -228,9 +228,9 @@ asks-chain e f g ps qs a b entry i pending = by (b entry i pending)
     by : IsAskedBy f qs g entry → IsAskedBy e (ps ++ qs) g entry
     by (before j k) = first k (a entry j pending)
     by (anew (inl h)) = anew (inl h)
-    by (anew (inr h)) = anew (inr (asked-more (resolver_for entry) qs (ps ++ qs) (λ packet i. in-behind ps i) h))
+    by (anew (inr h)) = anew (inr (asked-more (resolver_for entry) qs (ps ++ qs) (λ packet i. in-following ps i) h))
 
--- what follows in a step leaves the state as it is
+-- the following parts of a step leave the state as it is
 later-state : {p q : Phase} {e f : End} {ws : List What} {ps : List Packet} → LaterPart p e ws ps f q → f.state ≡ e.state
 later-state (Parts.unnames name may silent) = refl
 later-state (Parts.lets_go name r may is open_is) = refl
@@ -245,7 +245,7 @@ laters-state : {p q : Phase} {e f : End} {ws : List What} {ps : List Packet} →
 laters-state Parts.done = refl
 laters-state (Parts.then part rest) = laters-state rest ∙ later-state part
 
--- an item that is taken is no answer to this
+-- an item that is taken is not an answer to this request
 left-asks : (e : End) (x : Item) (r : Resolver) → takes.taken_next e ≡ Some x → ((m : Message) (sync : Bool) (level : Level) → item.Message m sync level ≡ x → AnswersFor r m → ⊥) → IsAtAsker e.outbox e.arrived r → IsAtAsker e.outbox (left_end e).arrived r
 left-asks e x r next other (held_back m i brings) = held_back m i brings
 left-asks e x r next other (come_back m sync level i answers) = elim (in-taken e.arrived (left_end e).arrived x (item.Message m sync level) (taken-first e x next).taken i) [
@@ -264,12 +264,12 @@ reply-found schema sound n h =
     (or_right (is_sync_row h.row) (is_some h.row.returns) (and-right (not (is_sync_row h.row)) (is_some h.row.returns) h.promised))
 
 module _ (schema : Schema) (sound : IsSound schema) where
-  -- What is known of an end that asks: its promises have rows, and numbers of their own.
+  -- What is known of an end that asks: its promises have rows, and distinct numbers.
   pub record IsAsker (e : End) : Type 0 where
     pub rows : PromisesHaveRows schema e
     pub distinct : AreDistinct (map promise_seq e.promises)
 
-  -- a reply that comes too late is none to a pending promise
+  -- a reply that comes too late is not for a pending promise
   late-other : (e : End) → IsAsker e → (entry : PromiseEntry) → In entry e.promises → is_pending entry.promise ≡ true → (taken : Message) (sync : Bool) (level : Level) → is_settling schema e taken ≡ false → (m : Message) (own_sync : Bool) (own_level : Level) → item.Message m own_sync own_level ≡ item.Message taken sync level → AnswersFor (resolver_for entry) m → ⊥
   late-other e asker entry i pending taken sync level late m own_sync own_level same answers =
       let this : m ≡ taken = cc in
@@ -294,8 +294,8 @@ module _ (schema : Schema) (sound : IsSound schema) where
   sent-asks false e m r h = put-asks e.outbox e.arrived (message m) r h
 
   new-asks : (lazy : Bool) (e : End) (m : Message) (r : Resolver) → BringsResolver r m → IsAtAsker (outbox_after lazy m e.outbox) e.arrived r ⊎ IsAsked r (request_packets lazy e m)
-  new-asks true e m r brings = inl (held_back m (in-behind e.outbox here) brings)
-  new-asks false e m r brings = inr (record { request = m; sent = in-behind (map message e.outbox) here; brings = brings })
+  new-asks true e m r brings = inl (held_back m (in-following e.outbox here) brings)
+  new-asks false e m r brings = inr (record { request = m; sent = in-following (map message e.outbox) here; brings = brings })
 
   used-promises : (by : Answering) (e : End) (entry : PromiseEntry) → In entry (answers.without_resolver by e).promises → In entry e.promises
   used-promises (handled seq) e entry i = i
@@ -321,14 +321,14 @@ module _ (schema : Schema) (sound : IsSound schema) where
       ]
   first-asks {e} (Parts.answers by vs r row found may ok is) asker opened entry i pending =
       let packet : Packet = message (reply_to (resolver_answered r) (answers.answer_body vs)) in
-      before (used-promises by e entry i) (λ h. subst (λ (items : List Item). IsAtAsker [] items (resolver_for entry) ⊎ IsAsked (resolver_for entry) (behind_outbox e packet)) (sym (used-arrived by e)) (put-asks e.outbox e.arrived packet (resolver_for entry) h))
+      before (used-promises by e entry i) (λ h. subst (λ (items : List Item). IsAtAsker [] items (resolver_for entry) ⊎ IsAsked (resolver_for entry) (after_outbox e packet)) (sym (used-arrived by e)) (put-asks e.outbox e.arrived packet (resolver_for entry) h))
   first-asks (Parts.closes open_is none) asker opened entry i pending = cc
   first-asks (Parts.dies open_is) asker opened entry i pending = cc
   first-asks (Parts.dies_silent open_is alive) asker opened entry i pending = cc
   first-asks {e} (Parts.takes m sync level row vs next body found stays) asker opened entry i pending =
       before i (λ h. inl (left-asks e (item.Message m sync level) (resolver_for entry) next (request-other (resolver_for entry) m sync level vs body) h))
   first-asks {e} (Parts.drops m sync level row vs id replies next body found gone is) asker opened entry i pending =
-      before (behind-promises replies (left_end e) entry i) (λ h. reply-asks replies e (left_end e) _ _ (resolver_for entry) refl (left-asks e (item.Message m sync level) (resolver_for entry) next (request-other (resolver_for entry) m sync level vs body) h))
+      before (following-promises replies (left_end e) entry i) (λ h. reply-asks replies e (left_end e) _ _ (resolver_for entry) refl (left-asks e (item.Message m sync level) (resolver_for entry) next (request-other (resolver_for entry) m sync level vs body) h))
   first-asks {e} (Parts.drops_unknown m sync level vs next body none) asker opened entry i pending =
       before i (λ h. inl (left-asks e (item.Message m sync level) (resolver_for entry) next (request-other (resolver_for entry) m sync level vs body) h))
   first-asks {e} (Parts.takes_reply m sync level a next body late) asker opened entry i pending =
@@ -344,9 +344,9 @@ module _ (schema : Schema) (sound : IsSound schema) where
       let a : Answer = return.return_answer schema e row done vs in
       let kept_for : AnsweredRequest = resolver_answered (answers.resolver_in done) in
       let c : Answer = answer.Fault ResolverDestroyed in
-      before (behind-promises told off entry (behind-promises lost (end_behind told off) entry i))
-      (λ h. chain-asks (end_behind told off) (end_behind lost (end_behind told off)) (reply_packets told e q a) (reply_packets lost (end_behind told e) kept_for c) (resolver_for entry)
-      (reply-asks told e off q a (resolver_for entry) refl h) (λ k. reply-asks lost (end_behind told e) (end_behind told off) kept_for c (resolver_for entry) (behind-outbox told e off refl) k))
+      before (following-promises told off entry (following-promises lost (end_after told off) entry i))
+      (λ h. chain-asks (end_after told off) (end_after lost (end_after told off)) (reply_packets told e q a) (reply_packets lost (end_after told e) kept_for c) (resolver_for entry)
+      (reply-asks told e off q a (resolver_for entry) refl h) (λ k. reply-asks lost (end_after told e) (end_after told off) kept_for c (resolver_for entry) (following-outbox told e off refl) k))
   first-asks (Parts.resumes wait row on_top found) asker opened entry i pending = before i (λ h. inl h)
 
   later-asks : {p q : Phase} {e f : End} {ws : List What} {ps : List Packet} → LaterPart p e ws ps f q → Asks e ps f
@@ -373,7 +373,7 @@ module _ (schema : Schema) (sound : IsSound schema) where
   staying-asks e items r stay (held_back m i brings) = held_back m i brings
   staying-asks e items r stay (come_back m sync level i answers) = come_back m sync level (stay m sync level i answers) answers
 
-  -- a request is replaced, and no answer is
+  -- a request is replaced, but no answer is
   replaced-other : (r : Resolver) (new : Item) (old : Message) (sync : Bool) (level : Level) → are_alike new (item.Message old sync level) ≡ true → (m : Message) (own_sync : Bool) (own_level : Level) → item.Message m own_sync own_level ≡ item.Message old sync level → AnswersFor r m → ⊥
   replaced-other r new old sync level alike m own_sync own_level same answers = by answers.answer (ap is_request_item same ∙ alike-request new (item.Message old sync level) alike) answers.body
     where
@@ -390,7 +390,7 @@ module _ (schema : Schema) (sound : IsSound schema) where
       let new : Item = delivery.item_of row m in
       let next : End = delivery.counted row new e in
       let r : Replaces row.compress new e.arrived (item.Message old sync level) = replaced-taken row.compress new e.arrived (item.Message old sync level) rep in
-      before (behind-promises replies next entry i) (λ h. reply-asks replies e next _ _ (resolver_for entry) refl
+      before (following-promises replies next entry i) (λ h. reply-asks replies e next _ _ (resolver_for entry) refl
       (staying-asks e next.arrived (resolver_for entry)
       (λ one own_sync own_level j answers. elim (in-taken e.arrived (staying row.compress new e.arrived) (item.Message old sync level) (item.Message one own_sync own_level) r.taken j) [
         | inl same ↦ absurd (replaced-other (resolver_for entry) new old sync level r.alike one own_sync own_level same answers)
@@ -411,7 +411,7 @@ module _ (schema : Schema) (sound : IsSound schema) where
       let async : is_sync_row own.row ≡ false = not-true (is_sync_row own.row) (and-left (not (is_sync_row own.row)) (is_some own.row.returns) own.promised) in
       let k : true ≡ false = sym sync ∙ (ap is_sync_row (sym same) ∙ async) in
       cc
-  delivery-answers {e} (Parts.gets_reply m row a body found async) r own answers opened = come_back m (is_sync_row row) row.level (in-behind e.arrived here) answers
+  delivery-answers {e} (Parts.gets_reply m row a body found async) r own answers opened = come_back m (is_sync_row row) row.level (in-following e.arrived here) answers
   delivery-answers (Parts.drains packet is) r own answers opened = cc
   delivery-answers (Parts.passes_by m ordinary none) r own answers opened =
       let k : None ≡ Some own.row = sym none ∙ (ap (message_of schema) answers.number ∙ reply-found schema sound r.number own) in cc

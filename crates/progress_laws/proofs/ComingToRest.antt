@@ -78,7 +78,7 @@ module _ (schema : Schema) (sound : IsSound schema) where
       let b = few moves (happens schema w move).world (nested_worlds_stay.stays schema sound move w nested) h.2 in
       omega (arith, a, b)
 
-  -- a world is still, or goes on
+  -- a world is still, or a step is possible
   still-or : (w : World) (b : Bool) → is_still schema w ≡ b → (is_still schema w ≡ false → Settles schema w) → Settles schema w
   still-or w true is go = record { more = []; happen = tt; still = is }
   still-or w false is go = go is

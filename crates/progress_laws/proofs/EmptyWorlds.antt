@@ -16,7 +16,7 @@ use Rattle.nesting_core.specs.declared.frame.StackFrame.TheVariants.{Dispatch, W
 use Rattle.nesting_core.specs.Deferral.{awaited_level, inner_transaction}
 use Rattle.nesting_core.specs.Top.{top_of}
 use Rattle.pending_queue.specs.declared.item.Item.{Item}
-use Rattle.pending_queue.specs.Holding.{is_free}
+use Rattle.pending_queue.specs.DeferralContext.{is_free}
 use Rattle.history_reading.specs.Reading.{opening_reading}
 use Rattle.channel_model.specs.Deliveries as delivery
 use Rattle.channel_model.specs.Ends.{End, World, StackEntry, Packet, end_of, link_to}
@@ -47,7 +47,7 @@ use Rattle.progress_laws.proofs.WeighedRuns.{itself-falls}
 
 -- An end at which nothing happens by itself
 
--- Nothing is possible there but acts.
+-- Only acts are possible there.
 record IsIdle (schema : Schema) (e : End) (link : List Packet) : Type 0 where
   deliver : is_some (step schema e link event.deliver) ≡ false
   take : is_some (step schema e link event.take) ≡ false

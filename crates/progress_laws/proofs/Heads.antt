@@ -1,4 +1,4 @@
--- The first line of every step tells whether its event is an act, and whether it is a flush.
+-- The first line of every step shows whether its event is an act, and whether it is a flush.
 use Rattle.std.proofs.Common.{◌≡◌, ℕ, ℤ, pos, Bool, true, false, ◌||◌, if◌then◌else◌, List, [], ◌∷◌, ◌++◌, drop, map, Option, Some, None, option_and_then, refl, sym, subst}
 use Rattle.std.specs.Option.{option_map_or}
 use Rattle.ipdl_base.specs.declared.kinds.Destroy.{Destroy}
@@ -53,7 +53,7 @@ abbrev pub flushes : Event → Bool
 flushes event.flush = true
 flushes _ = false
 
--- a line tells of an event whether it happens by itself, and whether it is a flush
+-- a line shows whether its event happens by itself, and whether it is a flush
 abbrev pub Tells : Bool → Bool → What → Type 0
 Tells own flush w = (tells_by_itself w ≡ own) × (is_flush w ≡ flush)
 

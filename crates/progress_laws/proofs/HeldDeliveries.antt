@@ -26,12 +26,12 @@ use Rattle.channel_model.specs.Ends.{Resolver}
 use Rattle.channel_model.specs.Numbers.{is_sync_row, makes_promise}
 use Rattle.channel_model.specs.Outputs.{is_open, request_answered, body_of}
 use Rattle.channel_model.specs.Parts
-use Rattle.channel_model.specs.Parts.{DeliveryPart, end_behind, reply_packet, reply_packets}
+use Rattle.channel_model.specs.Parts.{DeliveryPart, end_after, reply_packet, reply_packets}
 use Rattle.channel_model.specs.Phases.{Phase}
 use Rattle.channel_model.proofs.Tests.{and-left, and-right}
 use Rattle.channel_laws.specs.Notes.{In, here, there}
 use Rattle.channel_laws.proofs.ArrivalParts.{staying-all}
-use Rattle.channel_laws.proofs.Growing.{in-before, in-behind}
+use Rattle.channel_laws.proofs.Growing.{in-before, in-following}
 use Rattle.channel_laws.proofs.Replacing.{Replaces, replaced-taken}
 use Rattle.channel_laws.proofs.Rows.{request-message}
 use Rattle.channel_laws.proofs.Track.{frames_in}
@@ -40,7 +40,7 @@ use Rattle.progress_laws.proofs.HeldResolvers.{IsAnswered, answers-request}
 use Rattle.progress_laws.proofs.HeldSteps.{IsHeld}
 use Rattle.progress_laws.proofs.Members.{in-cons, in-taken}
 
--- a dispatch stays where a wait gets its answer
+-- a dispatch stays when a wait gets its answer
 
 same-frames : (stack : List StackEntry) (entry : StackEntry) → In entry stack → In entry (delivery.with_frames (frames_in stack) stack)
 same-frames [] entry i = elim i [ ]
@@ -51,7 +51,7 @@ dispatch-stays : (a : Answer) (stack : List StackEntry) (entry : StackEntry) →
 dispatch-stays a [] entry dispatch i = elim i [ ]
 dispatch-stays a (first ∷ stack) entry dispatch i = by first.frame refl (in-cons stack first entry i) (dispatch-stays a stack entry dispatch)
   where
-    -- the first is a dispatch, where it is this one
+    -- the first frame is a dispatch, if it is this one
     dispatched : (f : StackFrame) → first.frame ≡ f → entry ≡ first → is_dispatch f ≡ true
     dispatched f is same = ap is_dispatch (sym is ∙ ap (λ (x : StackEntry). x.frame) (sym same)) ∙ dispatch
 
@@ -81,7 +81,7 @@ pub delivery-names : {schema : Schema} {packet : Packet} {q : Phase} {e f : End}
 delivery-names (Parts.gets_request m row vs body found none) = refl
 delivery-names {e} (Parts.replaces m row vs old sync level replies body found rep is) = by replies
   where
-    by : (b : Bool) → (end_behind b (delivery.counted row (delivery.item_of row m) e)).names ≡ e.names
+    by : (b : Bool) → (end_after b (delivery.counted row (delivery.item_of row m) e)).names ≡ e.names
     by true = refl
     by false = refl
 delivery-names (Parts.gets_answer m row a body found sync) = refl
@@ -93,18 +93,18 @@ module _ (schema : Schema) (r : Resolver) where
   abbrev MayAt : End → Type 0
   MayAt e = MayAnswer e.arrived e.stack e.names r
 
-  behind-may : (b : Bool) (e : End) → MayAt e → MayAt (end_behind b e)
-  behind-may true e h = h
-  behind-may false e h = h
+  following-may : (b : Bool) (e : End) → MayAt e → MayAt (end_after b e)
+  following-may true e h = h
+  following-may false e h = h
 
-  -- a request that is replaced is answered, where it makes a promise
+  -- a request that is replaced is answered, if it makes a promise
   replaced-answered : (e : End) (m old : Message) (row other : MessageRow) (replies : Bool) → BringsResolver r old → old.number ≡ m.number → message_of schema m.number ≡ Some row → message_of schema r.number ≡ Some other → makes_promise other ≡ true → replies ≡ makes_promise row
       → IsAnswered r (reply_packets replies e (request_answered old) (answer.Fault ResolverDestroyed))
   replaced-answered e m old row other replies brings number found own promised is =
       let same : row ≡ other = same_Some row other (sym found ∙ ap (message_of schema) (sym number ∙ brings.number) ∙ own) in
       let owes : replies ≡ true = is ∙ ap makes_promise same ∙ promised in
       subst (λ (b : Bool). IsAnswered r (reply_packets b e (request_answered old) (answer.Fault ResolverDestroyed))) (sym owes)
-      (record { reply = _; sent = in-behind (map message e.outbox) here; answers = answers-request r old (answer.Fault ResolverDestroyed) brings })
+      (record { reply = _; sent = in-following (map message e.outbox) here; answers = answers-request r old (answer.Fault ResolverDestroyed) brings })
 
   pub delivery-still : {packet : Packet} {q : Phase} {e f : End} {ws : List What} {ps : List Packet} → DeliveryPart schema packet e ws ps f q → IsHeld schema e r → is_open f.state ≡ true → MayAt f ⊎ IsAnswered r ps
   delivery-still {e} (Parts.gets_request m row vs body found none) held opened = inl (from held.may)
@@ -127,10 +127,10 @@ module _ (schema : Schema) (r : Resolver) where
       replacing : Replaces row.compress new e.arrived (item.Message old sync level)
       replacing = replaced-taken row.compress new e.arrived (item.Message old sync level) rep
 
-      stays : MayAt (delivery.counted row new e) → MayAt (end_behind replies (delivery.counted row new e)) ⊎ IsAnswered r (reply_packets replies e (request_answered old) (answer.Fault ResolverDestroyed))
-      stays h = inl (behind-may replies (delivery.counted row new e) h)
+      stays : MayAt (delivery.counted row new e) → MayAt (end_after replies (delivery.counted row new e)) ⊎ IsAnswered r (reply_packets replies e (request_answered old) (answer.Fault ResolverDestroyed))
+      stays h = inl (following-may replies (delivery.counted row new e) h)
 
-      from : MayAt e → MayAt (end_behind replies (delivery.counted row new e)) ⊎ IsAnswered r (reply_packets replies e (request_answered old) (answer.Fault ResolverDestroyed))
+      from : MayAt e → MayAt (end_after replies (delivery.counted row new e)) ⊎ IsAnswered r (reply_packets replies e (request_answered old) (answer.Fault ResolverDestroyed))
       from (has_arrived one own_sync own_level i brings) = elim (in-taken e.arrived (staying row.compress new e.arrived) (item.Message old sync level) (item.Message one own_sync own_level) replacing.taken i) [
         | inl same ↦
             let this : one ≡ old = cc in
@@ -156,9 +156,9 @@ module _ (schema : Schema) (r : Resolver) where
 
   -- the request that brings a resolver arrives
   pub delivery-brings : {m : Message} {q : Phase} {e f : End} {ws : List What} {ps : List Packet} → DeliveryPart schema (message m) e ws ps f q → BringsResolver r m → (row : MessageRow) → message_of schema r.number ≡ Some row → is_open f.state ≡ true → MayAt f
-  delivery-brings {e} (Parts.gets_request m row vs body found none) brings own own_found opened = has_arrived m (is_sync_row row) row.level (in-behind (staying row.compress (delivery.item_of row m) e.arrived) here) brings
+  delivery-brings {e} (Parts.gets_request m row vs body found none) brings own own_found opened = has_arrived m (is_sync_row row) row.level (in-following (staying row.compress (delivery.item_of row m) e.arrived) here) brings
   delivery-brings {e} (Parts.replaces m row vs old sync level replies body found rep is) brings own own_found opened =
-      behind-may replies (delivery.counted row (delivery.item_of row m) e) (has_arrived m (is_sync_row row) row.level (in-behind (staying row.compress (delivery.item_of row m) e.arrived) here) brings)
+      following-may replies (delivery.counted row (delivery.item_of row m) e) (has_arrived m (is_sync_row row) row.level (in-following (staying row.compress (delivery.item_of row m) e.arrived) here) brings)
   delivery-brings (Parts.gets_answer m row a body found sync) brings own own_found opened = absurd (not-answer brings.values a (sym brings.body ∙ body))
   delivery-brings (Parts.gets_reply m row a body found async) brings own own_found opened = absurd (not-answer brings.values a (sym brings.body ∙ body))
   delivery-brings (Parts.drains packet is) brings own own_found opened = cc

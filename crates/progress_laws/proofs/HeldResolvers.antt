@@ -24,7 +24,7 @@ use Rattle.channel_model.proofs.Known.{all-append, all-filter}
 use Rattle.channel_laws.specs.AnswersOnce.{owes_answer}
 use Rattle.channel_laws.specs.Counts.{how_many}
 use Rattle.channel_laws.specs.Notes.{In, here, there}
-use Rattle.channel_laws.proofs.Growing.{in-before, in-behind}
+use Rattle.channel_laws.proofs.Growing.{in-before, in-following}
 use Rattle.progress_laws.specs.Promises.{BringsResolver, AnswersFor}
 use Rattle.progress_laws.proofs.Members.{only-found}
 
@@ -64,7 +64,7 @@ holding-differ name None names h = append-none (without_name name names) (filter
     append-none (naming ∷ names) h = (all-append (λ later. later.name ≢ naming.name) names [] h.0 tt, append-none names h.1)
 holding-differ name (Some holds) names h = differ-last (without_name name names) (record { name = name; holds = holds }) (filter-differ _ names h) (without-new name names)
 
--- where names differ, a name finds what it holds
+-- where names differ, a name finds its content
 pub name-finds : (name : List ℕ) (names : List Naming) (naming : Naming) → NamesDiffer names → In naming names → has_name name naming ≡ true → held_by_name name names ≡ Some naming.holds
 name-finds name [] naming h i is = elim i [ ]
 name-finds name (first ∷ names) naming h here is = ap (λ (b : Bool). option_map (λ (x : Naming). x.holds) (cond b (Some naming) (find (has_name name) names))) is
@@ -95,7 +95,8 @@ resolver-owes seq entry = by (is_dispatch entry.frame) entry.resolves (head_of e
     by true false sync same h = cc
     by false resolves sync same h = cc
 
--- the resolver of a number that an end finds is the one of the frame that has it, where no two owe an answer to one request
+-- the resolver of a number that an end finds is that of the frame with the number, if no two owe an answer to one
+-- request
 pub resolver-found : (seq : ℤ) (stack : List StackEntry) (entry : StackEntry) (found : Resolver) → how_many (owes_answer seq) stack ≤ 1 → In entry stack → has_resolver seq entry ≡ true → option_map resolver_in (find (has_resolver seq) stack) ≡ Some found → resolver_in entry ≡ found
 resolver-found seq stack entry found few i has = by (find (has_resolver seq) stack) refl
   where
@@ -114,9 +115,9 @@ pub record IsAnswered (r : Resolver) (packets : List Packet) : Type 0 where
 pub answered-more : (r : Resolver) (packets more : List Packet) → ((packet : Packet) → In packet packets → In packet more) → IsAnswered r packets → IsAnswered r more
 answered-more r packets more grow h = record { reply = h.reply; sent = grow (message h.reply) h.sent; answers = h.answers }
 
--- Outputs that leave all as it was, and add to it
+-- Outputs that keep all as it was, and add to it
 
--- What had arrived, the frames and the packets are there still, names and state are the same.
+-- What had arrived, the frames and the packets are still there, and names and state are the same.
 pub record Grows (a b : Output) : Type 0 where
   pub arrived : (x : Item) → In x a.end.arrived → In x b.end.arrived
   pub stack : (x : StackEntry) → In x a.end.stack → In x b.end.stack
@@ -172,7 +173,7 @@ pub answer-sent : (q : AnsweredRequest) (a : Answer) (o : Output) → is_open o.
 answer-sent q a o opened = by (is_open o.end.state) opened
   where
     by : (b : Bool) → b ≡ true → In (message (reply_to q (body_of a))) (when b (line (answer_line q.seq a) ▷ put (message (reply_to q (body_of a)))) o).packets
-    by true is = in-behind (o.packets ++ map message o.end.outbox) here
+    by true is = in-following (o.packets ++ map message o.end.outbox) here
     by false is = cc
 
 pub resolver-answered : (r : Resolver) (a : Answer) (o : Output) → is_open o.end.state ≡ true → IsAnswered r (answered (resolver_answered r) a o).packets

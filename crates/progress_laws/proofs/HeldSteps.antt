@@ -47,7 +47,7 @@ use Rattle.channel_laws.specs.Counts.{how_many}
 use Rattle.channel_laws.specs.Notes.{In, here, there}
 use Rattle.channel_laws.proofs.Answering.{used-held}
 use Rattle.channel_laws.proofs.ArrivalParts.{taken-first}
-use Rattle.channel_laws.proofs.Growing.{in-before, in-behind}
+use Rattle.channel_laws.proofs.Growing.{in-before, in-following}
 use Rattle.channel_laws.proofs.Rows.{request-message}
 use Rattle.channel_model.proofs.Provided.{provided-gives, found-gives}
 use Rattle.channel_model.proofs.Tests.{and-left, and-right}
@@ -65,11 +65,12 @@ module _ (schema : Schema) (e : End) (r : Resolver) where
     pub promised : makes_promise row ≡ true
     pub may : MayAnswer e.arrived e.stack e.names r
 
-  -- it may still, or has answered
+  -- the end may still answer, or has answered
   abbrev pub StillOrAnswered : Output → Type 0
   StillOrAnswered o = MayAnswer o.end.arrived o.end.stack o.end.names r ⊎ IsAnswered r o.packets
 
-  -- what is kept of the beginning of a step: names differ, and while the end is open its resolver is there still, or answered
+  -- what is kept of the beginning of a step: names differ, and while the end is open its resolver is still there, or
+  -- answered
   abbrev pub Kept : Output → Type 0
   Kept o = NamesDiffer o.end.names × (IsHeld → is_open o.end.state ≡ true → StillOrAnswered o)
 
@@ -82,11 +83,11 @@ module _ (schema : Schema) (e : End) (r : Resolver) where
   kept-grows : (a b : Output) → Grows a b → Kept a → Kept b
   kept-grows a b g k = (subst NamesDiffer (sym g.names) k.0, λ held opened. still-grows a b g (k.1 held (ap is_open (sym g.state) ∙ opened)))
 
-  -- no end is open that has closed
+  -- an end that has closed is not open
   kept-closed : (why : Destroy) (o : Output) → NamesDiffer o.end.names → Kept (falls.closed why o)
   kept-closed why o differ = (filter-differ _ o.end.names differ, λ held opened. cc)
 
-  -- Names that are to hold something else
+  -- Names that get a new content
 
   module _ (name : List ℕ) (holds : Option NameContent) (o : Output) where
     abbrev unnamed : Output
@@ -101,7 +102,7 @@ module _ (schema : Schema) (e : End) (r : Resolver) where
     renamed-differ : NamesDiffer o.end.names → NamesDiffer (renamed name holds o).end.names
     renamed-differ h = subst (λ (names : List Naming). NamesDiffer (names ++ holding name holds)) (sym lets-go.names) (holding-differ name holds o.end.names h)
 
-    -- a resolver that the name held is answered
+    -- a resolver that the name had is answered
     let_go-answers : (before : Option NameContent) → before ≡ Some (resolver r) → is_open o.end.state ≡ true → IsAnswered r (let_go before unnamed).packets
     let_go-answers None is opened = cc
     let_go-answers (Some (actor id)) is opened = cc
@@ -118,7 +119,7 @@ module _ (schema : Schema) (e : End) (r : Resolver) where
 
     -- a resolver goes to the name
     renamed-holds : holds ≡ Some (resolver r) → StillOrAnswered (renamed name holds o)
-    renamed-holds is = inl (is_kept (record { name = name; holds = resolver r }) (in-behind gone.end.names (subst (λ (h : Option NameContent). In (record { name = name; holds = resolver r }) (holding name h)) (sym is) here)) refl)
+    renamed-holds is = inl (is_kept (record { name = name; holds = resolver r }) (in-following gone.end.names (subst (λ (h : Option NameContent). In (record { name = name; holds = resolver r }) (holding name h)) (sym is) here)) refl)
 
     kept-renamed : Kept o → Kept (renamed name holds o)
     kept-renamed k = (renamed-differ k.0, λ held opened. let before : is_open o.end.state ≡ true = ap is_open (sym lets-go.state) ∙ opened in renamed-still k.0 before (k.1 held before))
@@ -162,7 +163,7 @@ module _ (schema : Schema) (e : End) (r : Resolver) where
     where
       sent : (way : Answering) → used ≡ r → StillOrAnswered (answers.resolved way vs used (beginning e))
       sent way same = inr (subst (λ (q : Resolver). IsAnswered q (answers.resolved way vs used (beginning e)).packets) same
-          (record { reply = reply_to (resolver_answered used) (answers.answer_body vs); sent = in-behind _ here; answers = answers-for used vs }))
+          (record { reply = reply_to (resolver_answered used) (answers.answer_body vs); sent = in-following _ here; answers = answers-for used vs }))
 
       from : (way : Answering) → answers.resolver_used e way ≡ Some used → MayAnswer e.arrived e.stack e.names r → StillOrAnswered (answers.resolved way vs used (beginning e))
       from (handled seq) is (has_arrived m sync level i brings) = inl (has_arrived m sync level i brings)
@@ -231,7 +232,7 @@ module _ (schema : Schema) (e : End) (r : Resolver) where
 
   -- Takes
 
-  -- an output grows, or its end is not open any more
+  -- an output grows, or its end is no longer open
   data Goes (a b : Output) : Type 0 where
     on : Grows a b → Goes a b
     out : is_open b.end.state ≡ false → (NamesDiffer a.end.names → NamesDiffer b.end.names) → Goes a b
@@ -244,7 +245,7 @@ module _ (schema : Schema) (e : End) (r : Resolver) where
   goes-still a b (on g) opened h = still-grows a b g h
   goes-still a b (out shut keeps) opened h = let k : true ≡ false = sym opened ∙ shut in cc
 
-  -- so it is where a line is printed first
+  -- the same if a line is printed first
   line-goes : (w : What) (o b : Output) → Goes (line w o) b → Goes o b
   line-goes w o b (on g) = on (grow-chain o (line w o) b (grow-line w o) g)
   line-goes w o b (out shut keeps) = out shut keeps
@@ -324,7 +325,7 @@ module _ (schema : Schema) (e : End) (r : Resolver) where
       let left : Output = on_end left_end (beginning e) in
       (goes-differ left (takes.item_taken schema x left) (item-goes x left) k.0, λ held opened. take-still x next held opened)
 
-  -- Returns, and calls that go on
+  -- Returns, and calls that continue
 
   -- a frame of a stack is the dispatch on top, or below it
   below-or_on : (stack : List StackEntry) (top entry : StackEntry) → returns.dispatch_on_top stack ≡ Some top → In entry stack → (entry ≡ top) ⊎ In entry (drop 1 stack)
@@ -336,7 +337,7 @@ module _ (schema : Schema) (e : End) (r : Resolver) where
       by (Wait head a) is = cc
   below-or_on (first ∷ stack) top entry is (there i) = inr i
 
-  -- and where a wait is on top, a dispatch is below it
+  -- where a wait is on top, a dispatch is below it
   below-wait : (stack : List StackEntry) (wait : returns.AnsweredWait) (entry : StackEntry) → returns.answered_wait_on_top stack ≡ Some wait → is_dispatch entry.frame ≡ true → In entry stack → In entry (drop 1 stack)
   below-wait [] wait entry is dispatch i = elim i [ ]
   below-wait (first ∷ stack) wait entry is dispatch here = absurd (by first.frame dispatch is)
@@ -365,7 +366,7 @@ module _ (schema : Schema) (e : End) (r : Resolver) where
     return-grows : Grows popped (returns.return schema e row top vs (beginning e))
     return-grows = grow-chain popped told _ told-grows (grow-chain told lost _ lost-grows (grow-deletes top.route row.kind lost))
 
-    -- the resolver of the handler that returns is let go
+    -- the resolver of the handler that returns is destroyed
     lost-answered : top.resolves ≡ true → resolver_in top ≡ r → is_open e.state ≡ true → IsAnswered r lost.packets
     lost-answered resolves same opened =
         subst (λ (b : Bool). IsAnswered r (when b (answered (resolver_answered (resolver_in top)) (answer.Fault ResolverDestroyed)) told).packets) (sym resolves)

@@ -1,11 +1,11 @@
--- Elements of lists: in what is filtered, mapped or taken out, and the only one that passes a test.
+-- Elements of lists: in what is filtered, mapped or taken out, and the only element that passes a test.
 use Rattle.std.proofs.Common.{◌≡◌, ◌≤◌, ◌⊎◌, inl, inr, Bool, true, false, cond, List, [], ◌∷◌, ◌++◌, filter, find, map, Some, refl, sym, ap, subst, ◌∙◌, arith}
 use Rattle.std.proofs.lemmas.Bool.{cases_Bool}
 use Rattle.std.proofs.lemmas.Option.{same_Some}
 use Rattle.pending_queue.specs.declared.item.Item.{Item}
 use Rattle.channel_laws.specs.Counts.{one_if, how_many}
 use Rattle.channel_laws.specs.Notes.{In, here, there}
-use Rattle.channel_laws.proofs.Growing.{in-before, in-behind}
+use Rattle.channel_laws.proofs.Growing.{in-before, in-following}
 use Rattle.channel_laws.proofs.Leaving.{TakenFrom}
 
 -- an element is the first, or a later one
@@ -40,15 +40,15 @@ in-taken items rest x y t i = by (in-append t.front (x ∷ t.back) y (subst (In 
 
     by : In y t.front ⊎ In y (x ∷ t.back) → (y ≡ x) ⊎ In y rest
     by (inl j) = inr (left (in-before t.back j))
-    by (inr j) = elim (in-cons t.back x y j) [ inl same ↦ inl same | inr k ↦ inr (left (in-behind t.front k)) ]
+    by (inr j) = elim (in-cons t.back x y j) [ inl same ↦ inl same | inr k ↦ inr (left (in-following t.front k)) ]
 
--- one that passes is counted
+-- an element that passes is counted
 pub counted-in : {A : Type 0} (test : A → Bool) (xs : List A) (x : A) → In x xs → test x ≡ true → 1 ≤ how_many test xs
 counted-in test [] x i passes = elim i [ ]
 counted-in test (y ∷ xs) x here passes = let a : one_if (test x) ≡ 1 = ap one_if passes in omega (arith, a)
 counted-in test (y ∷ xs) x (there i) passes = let rest = counted-in test xs x i passes in omega (arith, rest)
 
--- Where at most one passes, the first that is found by a test which is no weaker is the only one.
+-- Where at most one element passes, the first that is found by a test which is no weaker is that element.
 pub only-found : {A : Type 0} (test found : A → Bool) → ((x : A) → found x ≡ true → test x ≡ true) → (xs : List A) (x y : A) → how_many test xs ≤ 1 → In x xs → found x ≡ true → find found xs ≡ Some y → x ≡ y
 only-found test found weaker [] x y few i passes is = elim i [ ]
 only-found test found weaker (z ∷ xs) x y few here passes is = let k : Some x ≡ Some y = ap (λ (b : Bool). cond b (Some x) (find found xs)) (sym passes) ∙ is in same_Some x y k

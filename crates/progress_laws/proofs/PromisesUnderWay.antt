@@ -1,4 +1,5 @@
--- In every run the answer to each pending promise is under way while both ends are open, and in a still world it is kept.
+-- In every run the answer to each pending promise can still come while both ends are open, and in a still world its
+-- resolver is kept.
 use Rattle.std.proofs.Common.{◌≡◌, ℕ, ◌≤◌, ℤ, true, false, List, [], Some, refl, sym, ap, subst, ◌∙◌, arith}
 use Rattle.std.proofs.lemmas.Bool.{true_from_ne_false}
 use Rattle.std.proofs.lemmas.Bool.Decides.{Decides-int_eq}
@@ -11,7 +12,7 @@ use Rattle.promise_table.specs.Promises.{is_pending}
 use Rattle.history_reading.specs.Reading.{Reading, opening_reading, read}
 use Rattle.channel_model.specs.Ends.{End, World, Packet, message, PromiseEntry, Naming, resolver, Resolver, end_of, link_to, opening}
 use Rattle.channel_model.specs.Events.{Event, Move}
-use Rattle.channel_model.specs.Numbers.{other}
+use Rattle.ipdl_base.specs.Sides.{other}
 use Rattle.channel_model.specs.Outputs.{Output, is_open}
 use Rattle.channel_model.specs.Requests.{requests_of, AreNumbered}
 use Rattle.channel_model.specs.Runs.{history_of, is_still, output_of, world_after}
@@ -96,7 +97,7 @@ module _ (schema : Schema) (sound : IsSound schema) where
   moves-keep move w r output m h = record {
     kept = by-side w r (reached-has schema (λ v s. BothHave IsAccountable v) both-accountable w r m.reached) h move.side move.event output m.step
         (λ opened. true_from_ne_false (is_open (end_of move.side w).state) (λ shut. let k : true ≡ false = sym opened ∙ move-stays_over schema move w output m.step m.nested shut in cc));
-    passes = λ behind. all-pass schema r output.lines behind;
+    passes = λ following. all-pass schema r output.lines following;
   }
 
   opening-under_way : (top : ℕ) (r : Reading) → UnderWayIn (opening top) r
@@ -112,7 +113,7 @@ module _ (schema : Schema) (sound : IsSound schema) where
   side-accountable Parent w k = k.0
   side-accountable Child w k = k.1
 
-  -- where nothing is left but names, a name holds the resolver
+  -- where nothing is left but names, a name has the resolver
   kept-by_name : (mine theirs : End) (to_me to_them : List Packet) (r : Resolver) → mine.outbox ≡ [] → mine.arrived ≡ [] → to_me ≡ [] → to_them ≡ [] → theirs.arrived ≡ [] → theirs.stack ≡ [] → IsUnderWay mine theirs to_me to_them r
       → (naming : Naming) × (In naming theirs.names × (naming.holds ≡ resolver r))
   kept-by_name mine theirs to_me to_them r outbox arrived no_me no_them their_arrived their_stack = by

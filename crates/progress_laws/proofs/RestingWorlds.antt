@@ -10,7 +10,7 @@ use Rattle.ipdl_base.specs.Sound.{IsSound}
 use Rattle.pending_queue.specs.declared.item.Item.{Item}
 use Rattle.channel_model.specs.Ends.{End, World, Packet, message, end_of, link_to}
 use Rattle.channel_model.specs.Events.{Move}
-use Rattle.channel_model.specs.Numbers.{other}
+use Rattle.ipdl_base.specs.Sides.{other}
 use Rattle.channel_model.specs.Outputs.{is_open, is_closed}
 use Rattle.channel_model.specs.Runs.{is_still}
 use Rattle.channel_model.specs.States.{IsInState, HasArrived}
@@ -58,7 +58,7 @@ rest-leaves w (both_ended p c at_p at_c) = (
   record { at_end = at_c; on_link = λ opened. let k : true ≡ false = sym opened ∙ ended-shut w.child c in cc },
 )
 
--- at rest an end is open only beside another that is
+-- at rest an end is open only if the other one is
 pub both-or_none : (side : Side) (w : World) → IsRestingWorld w → is_open (end_of side w).state ≡ is_open (end_of (other side) w).state
 both-or_none Parent w (both_rest p c to_p to_c at_p at_c) = ap is_open (p ∙ sym c)
 both-or_none Child w (both_rest p c to_p to_c at_p at_c) = ap is_open (c ∙ sym p)

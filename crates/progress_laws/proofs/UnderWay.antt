@@ -1,4 +1,4 @@
--- While both ends are open the answer to each pending promise is under way, step by step.
+-- While both ends are open the answer to each pending promise can still come, step by step.
 use Rattle.std.proofs.Common.{◌≡◌, ◌⊎◌, inl, inr, ◌≤◌, ℤ, pos, true, List, [], ◌∷◌, ◌++◌, drop, Some, refl, sym, subst}
 use Rattle.std.proofs.lemmas.Option.{same_Some}
 use Rattle.ipdl_base.specs.declared.message.Message.{Message}
@@ -17,7 +17,7 @@ use Rattle.channel_model.proofs.StepParts.{by-parts, steps_are_made_of_parts}
 use Rattle.channel_laws.specs.AnswersOnce.{owes_answer}
 use Rattle.channel_laws.specs.Counts.{how_many}
 use Rattle.channel_laws.specs.Notes.{In, here, there}
-use Rattle.channel_laws.proofs.Growing.{in-before, in-behind, in-all}
+use Rattle.channel_laws.proofs.Growing.{in-before, in-following, in-all}
 use Rattle.channel_laws.proofs.Rows.{request-message}
 use Rattle.progress_laws.specs.Promises.{resolver_for, BringsResolver, AnswersFor, MayAnswer, IsUnderWay, is_kept_back, goes_there, is_there, comes_back, is_back}
 use Rattle.progress_laws.proofs.AskedSteps.{HasPromiseRow, IsAtAsker, held_back, come_back, IsAtOrAsked, IsAskedBy, before, anew, IsAsker, own-asks, delivery-asks, delivery-answers}
@@ -54,7 +54,7 @@ link-same (event.return vs) link other = refl
 link-same event.resume link other = refl
 link-same event.flush link other = refl
 
--- a packet on a link is the first, or behind it
+-- a packet on a link is the first, or after it
 first-or_later : (link : List Packet) (first packet : Packet) → first_packet link ≡ Some first → In packet link → (first ≡ packet) ⊎ In packet (drop 1 link)
 first-or_later [] first packet is i = elim i [ ]
 first-or_later (p ∷ link) first packet is here = inl (sym (same_Some packet first is))
@@ -79,13 +79,13 @@ module _ (schema : Schema) (sound : IsSound schema) where
   -- The asker's steps
 
   module _ (mine theirs : End) (to_me to_them : List Packet) (asker : IsAsker schema sound mine) where
-    -- what is at the asker, or sent by it, is under way
+    -- the answer to a request that is at the asker, or was sent by it, is pending
     asked-under_way : (f : End) (ps link : List Packet) (r : Resolver) → IsAtOrAsked f ps r → IsUnderWay f theirs link (to_them ++ ps) r
     asked-under_way f ps link r (inl (held_back m i brings)) = is_kept_back m i brings
     asked-under_way f ps link r (inl (come_back m sync level i answers)) = is_back m sync level i answers
-    asked-under_way f ps link r (inr asked) = goes_there asked.request (in-behind to_them asked.sent) asked.brings
+    asked-under_way f ps link r (inr asked) = goes_there asked.request (in-following to_them asked.sent) asked.brings
 
-    -- an answer on the link is there still, or has arrived
+    -- an answer on the link is still there, or has arrived
     before-under_way : (f : End) (ps link : List Packet) (r : Resolver) → (IsAtAsker mine.outbox mine.arrived r → IsAtOrAsked f ps r) → ((m : Message) → In (message m) to_me → AnswersFor r m → IsAtAsker f.outbox f.arrived r ⊎ In (message m) link)
         → IsUnderWay mine theirs to_me to_them r → IsUnderWay f theirs link (to_them ++ ps) r
     before-under_way f ps link r k comes (is_kept_back m i brings) = asked-under_way f ps link r (k (held_back m i brings))
@@ -131,7 +131,7 @@ module _ (schema : Schema) (sound : IsSound schema) where
     -- what the other end may answer, or has answered
     may-under_way : (f : End) (ps link : List Packet) → MayAnswer f.arrived f.stack f.names r ⊎ IsAnswered r ps → IsUnderWay mine f (to_me ++ ps) link r
     may-under_way f ps link (inl may) = is_there may
-    may-under_way f ps link (inr answered) = comes_back answered.reply (in-behind to_me answered.sent) answered.answers
+    may-under_way f ps link (inr answered) = comes_back answered.reply (in-following to_me answered.sent) answered.answers
 
     other-under_way : (f : End) (ps link : List Packet) → (MayAnswer theirs.arrived theirs.stack theirs.names r → MayAnswer f.arrived f.stack f.names r ⊎ IsAnswered r ps) → ((m : Message) → In (message m) to_them → BringsResolver r m → MayAnswer f.arrived f.stack f.names r ⊎ In (message m) link)
         → IsUnderWay mine theirs to_me to_them r → IsUnderWay mine f (to_me ++ ps) link r

@@ -1,4 +1,4 @@
--- What the parts of a step weigh: what happens by itself leaves less than there was, and an act adds at most so much.
+-- The weights of the parts of a step: what happens by itself lowers the weight, and an act adds a bounded amount.
 use Rattle.std.proofs.Common.{◌≡◌, ℕ, ◌+◌, ◌*◌, ◌≤◌, ℤ, Bool, true, false, not, ◌&&◌, cond, if◌then◌else◌, List, [], ◌∷◌, ◌++◌, drop, length, Option, Some, None, is_some, refl, sym, ap, subst, ◌∙◌, arith}
 use Rattle.std.specs.List.{AllByRecursion}
 use Rattle.std.proofs.lemmas.List.{length-append}
@@ -28,7 +28,7 @@ use Rattle.channel_model.specs.Names.{has_name, is_actor}
 use Rattle.channel_model.specs.Numbers.{is_sync_row, makes_promise, request_row}
 use Rattle.channel_model.specs.Outputs.{AnsweredRequest, request_answered, resolver_answered, reply_to, is_open}
 use Rattle.channel_model.specs.Parts
-use Rattle.channel_model.specs.Parts.{FirstPart, LaterPart, LaterParts, OwnParts, DeliveryPart, IsRefusal, IsRenaming, behind_outbox, reply_packet, reply_packets, end_behind, fallen_end, outbox_after, request_packets, shut_line}
+use Rattle.channel_model.specs.Parts.{FirstPart, LaterPart, LaterParts, OwnParts, DeliveryPart, IsRefusal, IsRenaming, after_outbox, reply_packet, reply_packets, end_after, fallen_end, outbox_after, request_packets, shut_line}
 use Rattle.channel_model.specs.Phases.{Phase}
 use Rattle.channel_model.specs.Returns as return
 use Rattle.channel_model.specs.Sends as send
@@ -39,12 +39,12 @@ use Rattle.channel_laws.proofs.ArrivalParts.{staying-all}
 use Rattle.channel_laws.proofs.Replacing.{Replaces, replaced-taken, alike-request}
 use Rattle.progress_laws.specs.Acts.{tells_by_itself}
 use Rattle.progress_laws.specs.Weights.{owed, body_weight, packet_weight, item_weight, entry_weight, total, naming_weight}
-use Rattle.progress_laws.proofs.Weighing.{total-append, total-taken, at-least, outbox-weight, behind-weight, reply-weight, given-weight, reply-body, farewell-weight, item-least, request-item, left-weight, released-weight, given-away, failed-weight, answered-weight, dispatch-weight, wait-weight, end_with, filter-weight, actors-weight, lost-weight}
+use Rattle.progress_laws.proofs.Weighing.{total-append, total-taken, at-least, outbox-weight, following-weight, reply-weight, given-weight, reply-body, farewell-weight, item-least, request-item, left-weight, released-weight, given-away, failed-weight, answered-weight, dispatch-weight, wait-weight, end_with, filter-weight, actors-weight, lost-weight}
 
--- All is shown for two weights of a kept resolver at once: k is the weight, 0 or 2, and j what it lacks of 2, which its answer
--- adds when it is used or let go.
+-- All is shown for two weights of a kept resolver at once: k is the weight, 0 or 2, and j is 2 - k, which its answer
+-- adds when it is used or destroyed.
 
--- what a phase may still add: the answer of a resolver whose name is to hold something else
+-- what a phase may still add: the answer of a resolver whose name gets a new content
 abbrev pub allowed : ℕ → Phase → ℕ
 allowed j p = cond p.renames j 0
 
@@ -59,7 +59,7 @@ module _ (k j : ℕ) (two : k + j ≡ 2) where
   later-within {p} {e} (Parts.unnames name may silent) = omega (arith, filter-weight (naming_weight k) (λ naming. not (has_name name naming)) e.names)
   later-within {p} {e} (Parts.lets_go name r may is open_is) =
       let b : allowed j p ≡ j = ap (λ (x : Bool). cond x j 0) may in
-      omega (arith, two, b, behind-weight e (reply_packet (resolver_answered r) (answer.Fault reason.ResolverDestroyed)), lost-weight k name e.names r is)
+      omega (arith, two, b, following-weight e (reply_packet (resolver_answered r) (answer.Fault reason.ResolverDestroyed)), lost-weight k name e.names r is)
   later-within {p} {e} (Parts.names more actors) = omega (arith, total-append (naming_weight k) e.names more, actors-weight k more actors)
   later-within {p} {e} (Parts.releases seq closed) = omega (arith, released-weight seq e.stack)
   later-within {p} {e} (Parts.keeps seq name r is closed) =
@@ -79,7 +79,7 @@ module _ (k j : ℕ) (two : k + j ≡ 2) where
 
 request-weight : (lazy : Bool) (e : End) (m : Message) → total packet_weight (request_packets lazy e m) + 6 * length (outbox_after lazy m e.outbox) ≤ 6 * length e.outbox + cond lazy 6 5
 request-weight true e m = omega (arith, length-append e.outbox (m ∷ []))
-request-weight false e m = let k : total packet_weight (behind_outbox e (message m)) ≤ 5 * length e.outbox + packet_weight (message m) = behind-weight e (message m) in let l = most m in omega (arith, k, l)
+request-weight false e m = let k : total packet_weight (after_outbox e (message m)) ≤ 5 * length e.outbox + packet_weight (message m) = following-weight e (message m) in let l = most m in omega (arith, k, l)
   where
     most : (m : Message) → packet_weight (message m) ≤ 5
     most m = let k = outbox-weight (m ∷ []) in omega (arith, k)
@@ -100,10 +100,10 @@ used-end : (k : ℕ) (by : Answering) (e : End) → total item_weight (answering
 used-end k (handled seq) e = omega (arith, released-weight seq e.stack)
 used-end k (kept name number) e = omega (arith, filter-weight (naming_weight k) (λ naming. not (has_name name naming)) e.names)
 
--- an answer, where there is one, sent after all that waits in the outbox
-pub answer-weight : (k : ℕ) (b : Bool) (e f : End) (q : AnsweredRequest) (a : Answer) → f.outbox ≡ e.outbox → total packet_weight (reply_packets b e q a) + end_with k (end_behind b f) ≤ end_with k f + owed b
+-- an answer, if there is one, sent after all that waits in the outbox
+pub answer-weight : (k : ℕ) (b : Bool) (e f : End) (q : AnsweredRequest) (a : Answer) → f.outbox ≡ e.outbox → total packet_weight (reply_packets b e q a) + end_with k (end_after b f) ≤ end_with k f + owed b
 answer-weight n true e f q a same =
-    let k = behind-weight e (reply_packet q a) in
+    let k = following-weight e (reply_packet q a) in
     let l : length f.outbox ≡ length e.outbox = ap length same in
     omega (arith, k, l, reply-weight q a)
 answer-weight n false e f q a same = omega arith
@@ -126,14 +126,14 @@ top-agrees schema (first ∷ stack) entry is h = by first.frame is
 sync-alike : (schema : Schema) (entry : StackEntry) (row : MessageRow) → EntryAgrees schema entry → request_row schema entry.number ≡ Some row → is_sync_row row ≡ (head_of entry.frame).sync
 sync-alike schema entry row h found = ap is_sync_row (same_Some row h.row (sym found ∙ h.found)) ∙ h.is_sync
 
--- only what owes a reply sends one
+-- only a request that needs a reply gets one
 paid : (open_end sync owes : Bool) → (open_end ≡ true → sync ≡ owes) → owed (open_end && sync) ≤ owed owes
 paid true true true h = omega arith
 paid true true false h = let k : true ≡ false = h refl in cc
 paid true false owes h = omega arith
 paid false sync owes h = omega arith
 
--- a dispatch owes one reply at most
+-- a dispatch owes at most one reply
 sync-or-promise : (row : MessageRow) → owed (is_sync_row row) + owed (makes_promise row) ≤ 2
 sync-or-promise row = by (is_sync_row row) (is_some row.returns)
   where
@@ -142,9 +142,9 @@ sync-or-promise row = by (is_sync_row row) (is_some row.returns)
     by false true = omega arith
     by false false = omega arith
 
-behind-weighs : (b : Bool) (e : End) → (end_behind b (record e { stack = drop 1 e.stack })).outbox ≡ (end_behind b e).outbox
-behind-weighs true e = refl
-behind-weighs false e = refl
+following-weighs : (b : Bool) (e : End) → (end_after b (record e { stack = drop 1 e.stack })).outbox ≡ (end_after b e).outbox
+following-weighs true e = refl
+following-weighs false e = refl
 
 -- First parts
 
@@ -161,8 +161,9 @@ abbrev pub is_flush : What → Bool
 is_flush (what.Flush n) = true
 is_flush _ = false
 
--- A part whose first line is that of an act leaves at most 6 + j more than there was; one whose first line is that of what
--- happens by itself leaves less, but a flush only no more, since its part does not say that the outbox holds anything.
+-- A part whose first line is that of an act adds at most 6 + j. A part whose first line is that of an event that
+-- happens by itself lowers the weight, except that a flush may leave it the same, since its part does not require a
+-- non-empty outbox.
 abbrev pub Leaves : ℕ → ℕ → What → ℕ → List Packet → End → Phase → Type 0
 Leaves k j w n ps f q = total packet_weight ps + (end_with k f + allowed j q) + one_if (tells_by_itself w && not (is_flush w)) ≤ n + cond (tells_by_itself w) 0 (6 + j)
 
@@ -222,9 +223,9 @@ module _ (k j : ℕ) (two : k + j ≡ 2) (schema : Schema) (rows : HasSoundRows 
       (omega (arith, request-weight row.lazy e m, wait-if (is_sync_row row) row m e.stack, lazy))
   first-leaves {p} {f} {ps} (Parts.answers by vs r row found may ok is) =
       act-leaves k j (answering.answering_line r.seq vs) (end_with k e) ps f p (answering-acts r.seq vs)
-      (omega (arith, behind-weight e (message (reply_to (resolver_answered r) (answering.answer_body vs))), given-weight (resolver_answered r) vs, used-end k by e))
-  first-leaves (Parts.closes open_is none) = omega (arith, behind-weight e (message goodbye), filter-weight (naming_weight k) is_actor e.names)
-  first-leaves (Parts.dies open_is) = omega (arith, behind-weight e mark)
+      (omega (arith, following-weight e (message (reply_to (resolver_answered r) (answering.answer_body vs))), given-weight (resolver_answered r) vs, used-end k by e))
+  first-leaves (Parts.closes open_is none) = omega (arith, following-weight e (message goodbye), filter-weight (naming_weight k) is_actor e.names)
+  first-leaves (Parts.dies open_is) = omega (arith, following-weight e mark)
   first-leaves (Parts.dies_silent open_is alive) = omega arith
   first-leaves (Parts.takes m sync level row vs next body found stays) =
       let b : body_weight 4 1 m.body ≡ 4 = ap (body_weight 4 1) body in
@@ -263,9 +264,9 @@ module _ (k j : ℕ) (two : k + j ≡ 2) (schema : Schema) (rows : HasSoundRows 
       let t1 : owed told ≡ owed (is_open e.state && is_sync_row row) = ap owed t in
       let l1 : owed lost ≡ owed (is_open e.state && entry.resolves) = ap owed l in
       let first = answer-weight k told e off q a refl in
-      let second = answer-weight k lost (end_behind told e) (end_behind told off) r c (behind-weighs told e) in
+      let second = answer-weight k lost (end_after told e) (end_after told off) r c (following-weighs told e) in
       let top = dispatch-weight e.stack entry returns.on_top in
-      omega (arith, told_paid, lost_paid, t1, l1, first, second, top, total-append packet_weight (reply_packets told e q a) (reply_packets lost (end_behind told e) r c))
+      omega (arith, told_paid, lost_paid, t1, l1, first, second, top, total-append packet_weight (reply_packets told e q a) (reply_packets lost (end_after told e) r c))
   first-leaves {p} {f} {ps} (Parts.resumes wait row on_top found) =
       let top = wait-weight e.stack wait on_top in
       own-leaves k j _ (end_with k e) ps f p (resumes-itself wait.seq _).0 (omega (arith, top))

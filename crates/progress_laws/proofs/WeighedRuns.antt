@@ -1,4 +1,4 @@
--- What every run weighs.
+-- The weights of every run.
 use Rattle.std.proofs.Common.{◌≡◌, ℕ, ◌+◌, ◌*◌, ◌<◌, ◌≤◌, Bool, true, false, not, ◌&&◌, cond, List, [], ◌∷◌, Option, Some, None, is_some, refl, ap, arith}
 use Rattle.std.specs.List.{AllByRecursion}
 use Rattle.ipdl_base.specs.declared.kinds.Side.{Side}
@@ -28,7 +28,7 @@ use Rattle.progress_laws.proofs.WeighedSteps.{move-weighs, move-weighs_fully}
 
 -- Moves
 
--- by a step what happens by itself makes a measure of worlds less, and an act adds at most so much
+-- in a step what happens by itself lowers a measure of worlds, and an act adds at most this number
 abbrev IsMeasured : (World → ℕ) → ℕ → Move → World → Output → Type 0
 IsMeasured measure most move w output = measure (world_after move output w) + one_if (happens_by_itself move.event) ≤ measure w + cond (happens_by_itself move.event) 0 most
 
@@ -55,7 +55,7 @@ module _ (measure : World → ℕ) (most : ℕ) (schema : Schema) (move : Move) 
       by None is = omega arith
       by (Some output) is = let h = measured output is in let m = at_most (happens_by_itself move.event) in omega (arith, h, m)
 
--- a measure of all nested worlds is one of those of every run
+-- a measure of all nested worlds is a measure of the worlds of every run
 run-measured : (measure : World → ℕ) (most : ℕ) → ((schema : Schema) → IsSound schema → (w : World) → IsNestedWorld schema w → (move : Move) (output : Output) → output_of schema w move ≡ Some output → IsMeasured measure most move w output) → MovesAreMeasured measure most
 run-measured measure most measured = record {
   falls = λ schema sound top moves move. measure-falls measure most schema move (world_of schema top moves) (measured schema sound (world_of schema top moves) (nesting_in_every_run schema sound top moves) move);
@@ -97,7 +97,7 @@ effects-count side (l ∷ ls) h =
     let rest = effects-count side ls h.1 in
     (omega (arith, a, rest.0), omega (arith, b, rest.1))
 
--- the line of an event is that of an act where it is not that of what happens by itself
+-- a line of an event is that of an act or of an event that happens by itself
 event-tells : (w : What) (act : Bool) → is_effect w ≡ false → tells_by_itself w ≡ not act → tells_act w ≡ act
 event-tells w act event h = by (tells_act w) act (ap (λ (b : Bool). not b && not (tells_act w)) event) h
   where

@@ -1,4 +1,4 @@
--- What every step weighs, at its end with the link toward it, and in its world.
+-- The weights of every step, at its end with the link toward it, and in its world.
 use Rattle.std.proofs.Common.{◌≡◌, ℕ, ◌+◌, ◌≤◌, Bool, true, false, not, ◌&&◌, cond, List, [], ◌∷◌, ◌++◌, drop, length, map, Some, refl, sym, ap, subst, ◌∙◌, arith}
 use Rattle.std.proofs.lemmas.Bool.{not-true}
 use Rattle.ipdl_base.specs.declared.kinds.EndState.{EndState}
@@ -10,7 +10,7 @@ use Rattle.ipdl_base.specs.declared.schema.Schema.{Schema}
 use Rattle.channel_model.specs.Ends.{End, World, Packet, end_of, link_to}
 use Rattle.channel_model.specs.Events.{Event, Move}
 use Rattle.channel_model.specs.Events as event
-use Rattle.channel_model.specs.Numbers.{other}
+use Rattle.ipdl_base.specs.Sides.{other}
 use Rattle.channel_model.specs.Outputs.{Output, is_open, line_at}
 use Rattle.channel_model.specs.Parts.{OwnParts}
 use Rattle.channel_model.specs.Phases.{Phase}
@@ -34,7 +34,7 @@ use Rattle.progress_laws.proofs.Weighing.{total-append, outbox-weight, end_with,
 
 -- Steps that deliver nothing
 
--- what happens by itself leaves less than there was, and an act adds at most 6 + j
+-- what happens by itself lowers the weight, and an act adds at most 6 + j
 abbrev Weighs : ℕ → Bool → ℕ → ℕ → Type 0
 Weighs j own before after = after + one_if own ≤ before + cond own 0 (6 + j)
 
@@ -78,7 +78,7 @@ link-least state link = by (is_open state)
     by true = omega arith
     by false = omega arith
 
--- no end opens, so a link toward one does not begin to weigh
+-- no end opens, so a link toward an end never begins to weigh
 link-stays : (before after : EndState) (link : List Packet) → (is_open before ≡ false → is_open after ≡ false) → link_weight after link ≤ link_weight before link
 link-stays before after link stays = by (is_open before) refl
   where
@@ -185,13 +185,13 @@ module _ (k j : ℕ) (two : k + j ≡ 2) (schema : Schema) (rows : HasSoundRows 
       by Child h = omega (arith, h, link-more w.parent.state w.to_parent output.packets)
 
 module _ (schema : Schema) (rows : HasSoundRows schema) where
-  -- What happens by itself makes the weight of a world less, and an act adds at most 8.
+  -- What happens by itself lowers the weight of a world, and an act adds at most 8.
   pub move-weighs : (move : Move) (w : World) (output : Output) → output_of schema w move ≡ Some output → IsNestedWorld schema w → weight (world_after move output w) + one_if (happens_by_itself move.event) ≤ weight w + cond (happens_by_itself move.event) 0 8
   move-weighs move w output is nested =
       let h = world-weighs 0 2 refl schema rows move w output is nested in
       let next : World = world_after move output w in
       omega (arith, h, nothing-kept w.parent.names, nothing-kept w.child.names, nothing-kept next.parent.names, nothing-kept next.child.names)
 
-  -- So it is with the full weight, to which an act adds at most 6.
+  -- The same with the full weight, to which an act adds at most 6.
   pub move-weighs_fully : (move : Move) (w : World) (output : Output) → output_of schema w move ≡ Some output → IsNestedWorld schema w → full_weight (world_after move output w) + one_if (happens_by_itself move.event) ≤ full_weight w + cond (happens_by_itself move.event) 0 6
   move-weighs_fully move w output is nested = let h = world-weighs 2 0 refl schema rows move w output is nested in omega (arith, h)

@@ -1,4 +1,4 @@
--- What lists of packets, items, frames and names weigh.
+-- The weights of lists of packets, items, frames and names.
 use Rattle.std.proofs.Common.{◌≡◌, ℕ, ◌+◌, ◌*◌, ◌≤◌, ℤ, Bool, true, false, not, ◌&&◌, cond, int_eq, List, [], ◌∷◌, ◌++◌, drop, find, filter, length, map, Option, Some, None, option_map, refl, sym, ap, ◌∙◌, arith}
 use Rattle.std.specs.List.{AllByRecursion}
 use Rattle.std.proofs.lemmas.Option.{same_Some}
@@ -15,13 +15,13 @@ use Rattle.nesting_core.specs.Frames.{head_of, is_dispatch}
 use Rattle.nesting_core.specs.Top.{top_of}
 use Rattle.pending_queue.specs.declared.item.Item.{Item}
 use Rattle.pending_queue.specs.declared.item.Item.TheVariants as item
-use Rattle.pending_queue.specs.Holding.{is_free}
+use Rattle.pending_queue.specs.DeferralContext.{is_free}
 use Rattle.channel_model.specs.Answers.{has_resolver, resolver_in, released, answer_body}
 use Rattle.channel_model.specs.Deliveries.{with_frames, with_failed_wait, failed}
 use Rattle.channel_model.specs.Ends.{End, StackEntry, Naming, NameContent, actor, resolver, Resolver, Packet, message, mark}
 use Rattle.channel_model.specs.Names.{has_name, held_by_name, without_name}
 use Rattle.channel_model.specs.Outputs.{AnsweredRequest, body_of, reply_to}
-use Rattle.channel_model.specs.Parts.{HoldsActor, behind_outbox, left_end, farewell_item}
+use Rattle.channel_model.specs.Parts.{HoldsActor, after_outbox, left_end, farewell_item}
 use Rattle.channel_model.specs.Returns as return
 use Rattle.channel_model.specs.Sends.{frames_of}
 use Rattle.channel_model.specs.States.{is_farewell, is_goodbye}
@@ -62,8 +62,8 @@ pub outbox-weight : (ms : List Message) → total packet_weight (map message ms)
 outbox-weight [] = omega arith
 outbox-weight (m ∷ ms) = omega (arith, at-most m.body, outbox-weight ms)
 
-pub behind-weight : (e : End) (packet : Packet) → total packet_weight (behind_outbox e packet) ≤ 5 * length e.outbox + packet_weight packet
-behind-weight e packet = omega (arith, total-append packet_weight (map message e.outbox) (packet ∷ []), outbox-weight e.outbox)
+pub following-weight : (e : End) (packet : Packet) → total packet_weight (after_outbox e packet) ≤ 5 * length e.outbox + packet_weight packet
+following-weight e packet = omega (arith, total-append packet_weight (map message e.outbox) (packet ∷ []), outbox-weight e.outbox)
 
 pub reply-weight : (q : AnsweredRequest) (a : Answer) → packet_weight (message (reply_to q (body_of a))) ≡ 2
 reply-weight q (answer.Ok vs) = refl
@@ -113,7 +113,7 @@ pub left-weight : (e : End) (x : Item) → take.taken_next e ≡ Some x → tota
 left-weight e x next = by (take.takes_in_state e.state && take.takes_under (top_of (frames_of e))) next
   where
     by : (b : Bool) → cond b (take.first_free e) None ≡ Some x → total item_weight (left_end e).arrived + item_weight x ≡ total item_weight e.arrived
-    by true is = total-taken e.arrived (left_end e).arrived x (first-taken (is_free (take.holding_of e)) e.arrived x is).taken
+    by true is = total-taken e.arrived (left_end e).arrived x (first-taken (is_free (take.deferral_context_of e)) e.arrived x is).taken
     by false is = cc
 
 -- Stacks
@@ -130,7 +130,7 @@ pub released-weight : (seq : ℤ) (stack : List StackEntry) → total entry_weig
 released-weight seq [] = omega arith
 released-weight seq (entry ∷ stack) = let k = one-released seq (has_resolver seq entry) entry in let rest = released-weight seq stack in omega (arith, k, rest)
 
--- a resolver that is there is used, or goes to a name
+-- a resolver is used, or goes to a name
 gives-away : (seq : ℤ) (entry : StackEntry) → has_resolver seq entry ≡ true → entry_weight (record entry { resolves = false }) + 2 ≤ entry_weight entry
 gives-away seq entry has = by entry.frame entry.resolves has
   where
@@ -221,7 +221,7 @@ actors-weight k (naming ∷ more) h = let a = one naming.holds h.0 in let rest =
     one (actor id) h = refl
     one (resolver r) h = absurd h
 
--- a name loses the resolver that it held
+-- a name loses its resolver
 pub lost-weight : (k : ℕ) (name : List ℕ) (names : List Naming) (r : Resolver) → held_by_name name names ≡ Some (resolver r) → total (naming_weight k) (without_name name names) + k ≤ total (naming_weight k) names
 lost-weight k name [] r is = cc
 lost-weight k name (naming ∷ names) r is = by (has_name name naming) is (lost-weight k name names r)

@@ -75,8 +75,8 @@ then_still = (refl, refl)
 not_flushed : is_still making (world_of making 0 asked) ≡ false
 not_flushed = refl
 
--- A kept resolver weighs 2 in the full weight alone: it may be left in a still world. An act lets it go, and its answer is
--- delivered and taken.
+-- A kept resolver weighs 2 in the full weight alone, and it may be left in a still world. An act destroys it, and its
+-- answer is delivered and taken.
 
 abbrev kept_resolver : List Move
 kept_resolver = asked ++ (child event.flush ∷ parent event.deliver ∷ parent event.take ∷ parent (event.keep (negsuc 0) (codes "a")) ∷ parent (event.return None) ∷ [])
@@ -90,8 +90,8 @@ kept_is_still = refl
 let_go_weighs : weight (world_of making 0 (kept_resolver ++ parent (event.name (codes "a") (pos 0)) ∷ [])) ≡ 2
 let_go_weighs = refl
 
--- The call of a constructor whose name held a resolver adds a request on a link, a wait and an answer: 8, or 6 to the full
--- weight, which loses the resolver.
+-- The call of a constructor whose name had a resolver adds a request on a link, a wait and an answer: 8, or 6 to the
+-- full weight, which loses the resolver.
 
 abbrev kept_first : List Move
 kept_first = asked ++ (child event.flush ∷ parent event.deliver ∷ parent event.take ∷ parent (event.keep (negsuc 0) (codes "a")) ∷ [])
@@ -130,7 +130,8 @@ closed_still = still_worlds_rest.still making making_is_sound 0 (parent event.cl
 goodbyes_are_left : (both_close.to_parent ≡ message goodbye ∷ []) × (both_close.to_child ≡ message goodbye ∷ [])
 goodbyes_are_left = (refl, refl)
 
--- A dead end may keep what a closed one may not: the child has asked, and both die. Its promise is pending for good.
+-- A dead end may keep what a closed one may not: the child has asked, and both die. Its promise stays pending for
+-- ever.
 abbrev both_die : List Move
 both_die = parent event.die ∷ asked ++ child event.die ∷ []
 
@@ -156,7 +157,8 @@ brings_it = record { values = Nothing; body = refl; seq = refl; route = refl; nu
 abbrev UnderWay : List Move → Type 0
 UnderWay moves = IsUnderWay (world_of making 0 moves).child (world_of making 0 moves).parent (world_of making 0 moves).to_child (world_of making 0 moves).to_parent (resolver_for promised)
 
--- Its answer is under way from the send on: the request waits in the outbox, is on the link, has arrived, and is handled.
+-- Its answer is pending from the send on: the request waits in the outbox, is on the link, has arrived, and is
+-- handled.
 sent_lazily : UnderWay asked
 sent_lazily = is_kept_back _ here brings_it
 
@@ -176,7 +178,7 @@ then_returned = comes_back _ here (record { answer = answer.Fault ResolverDestro
 then_back : UnderWay (asked ++ take 5 six_events)
 then_back = is_back _ false Not here (record { answer = answer.Fault ResolverDestroyed; body = refl; seq = refl; route = refl; number = refl })
 
--- So says the law, of this or of any other run.
+-- The law says the same of this run and of any other.
 is_under_way : UnderWay (asked ++ take 3 six_events)
 is_under_way = promises_are_under_way making making_is_sound 0 (asked ++ take 3 six_events) side.Child promised refl refl here refl
 
@@ -187,6 +189,6 @@ kept_once = still_promises_are_kept making making_is_sound 0 kept_resolver side.
 kept_as : (world_of making 0 kept_resolver).parent.names ≡ record { name = codes "a"; holds = resolver (resolver_for promised) } ∷ []
 kept_as = refl
 
--- Between dead ends nobody keeps it.
+-- Between dead ends no name keeps it.
 kept_by_nobody : (world_of making 0 both_die).parent.names ≡ []
 kept_by_nobody = refl

@@ -1,5 +1,5 @@
--- The schema of the worked weights, and that it is sound: a lazy request with returns to the parent, and a call by which the
--- parent makes an actor.
+-- The schema of the worked weights, and a proof that it is sound: a lazy request with returns to the parent, and a
+-- call by which the parent makes an actor.
 use Rattle.std.proofs.Common.{◌≡◌, ◌≢◌, ℕ, zero, suc, inl, inr, ◌<◌, true, false, Some, None, [], ◌∷◌, codes, refl, sym, subst, arith}
 use Rattle.std.specs.List.{slice_get, AllPairs, Contains}
 use Rattle.std.proofs.lemmas.Option.{same_Some}

@@ -1,4 +1,4 @@
--- Acts of the program, and what happens by itself: told of events, and of the lines by which histories tell them.
+-- Acts of the program, and what happens by itself: by events, and by the lines of histories.
 use Rattle.std.specs.Prelude.{◌≡◌, ℕ, Bool, true, false, not, ◌&&◌, List, Some}
 use Rattle.ipdl_base.specs.declared.line.Line.{Line}
 use Rattle.ipdl_base.specs.declared.line.What.{What}
@@ -27,7 +27,8 @@ is_act (event.return vs) = false
 is_act event.resume = false
 is_act event.flush = false
 
--- All else happens by itself: a delivery, a take, the return of a handler, a call that goes on, and a flush.
+-- All other events happen by themselves: a delivery, a take, the return of a handler, a call that continues, and a
+-- flush.
 abbrev pub happens_by_itself : Event → Bool
 happens_by_itself ev = not (is_act ev)
 
@@ -47,22 +48,22 @@ tells_act (what.RefusedClose cause) = true
 tells_act what.Die = true
 tells_act _ = false
 
--- whether it is that of an event that happens by itself: of no act, and no effect
+-- whether a line is that of an event that happens by itself: neither an act nor an effect
 abbrev pub tells_by_itself : What → Bool
 tells_by_itself w = not (is_effect w) && not (tells_act w)
 
--- how many acts lines tell, and how many events that happen by themselves
+-- the number of acts in lines, and the number of events that happen by themselves
 abbrev pub acts : List Line → ℕ
 acts lines = how_many (λ line. tells_act line.what) lines
 
 abbrev pub by_themselves : List Line → ℕ
 by_themselves lines = how_many (λ line. tells_by_itself line.what) lines
 
--- The lines of an event tell one act where it is one, and else one event that happens by itself.
+-- The lines of an event show one act if it is an act, and otherwise one event that happens by itself.
 pub record TellEvent (ev : Event) (lines : List Line) : Type 0 where
   pub as_act : acts lines ≡ one_if (is_act ev)
   pub by_itself : by_themselves lines ≡ one_if (happens_by_itself ev)
 
--- So do the lines of every event that is possible, at every end.
+-- The lines of every event that is possible, at every end, show it so.
 abbrev pub LinesTellActs : Type 0
 LinesTellActs = (schema : Schema) (e : End) (link : List Packet) (ev : Event) (output : Output) → step schema e link ev ≡ Some output → TellEvent ev output.lines

@@ -15,7 +15,7 @@ use Rattle.promise_table.specs.Promises.{is_pending}
 use Rattle.channel_model.specs.Answers.{has_resolver, resolver_in}
 use Rattle.channel_model.specs.Ends.{End, Packet, message, StackEntry, PromiseEntry, Naming, resolver, Resolver, end_of, link_to}
 use Rattle.channel_model.specs.Events.{Move}
-use Rattle.channel_model.specs.Numbers.{other}
+use Rattle.ipdl_base.specs.Sides.{other}
 use Rattle.channel_model.specs.Outputs.{body_of}
 use Rattle.channel_model.specs.Runs.{is_still}
 use Rattle.channel_laws.specs.AnswersOnce.{names_resolver}
@@ -23,7 +23,7 @@ use Rattle.channel_laws.specs.Counts.{how_many}
 use Rattle.channel_laws.specs.Laws.{world_of}
 use Rattle.channel_laws.specs.Notes.{In}
 
--- the resolver that answers a promise: its request brings it to the other end
+-- the resolver that answers a promise; the request of the promise brings it to the other end
 abbrev pub resolver_for : PromiseEntry → Resolver
 resolver_for entry = record { seq = entry.promise.seq; route = entry.promise.actor; number = entry.number }
 
@@ -43,14 +43,15 @@ pub record AnswersFor (r : Resolver) (m : Message) : Type 0 where
   pub route : m.route ≡ r.route
   pub number : m.number ≡ r.number + 1
 
--- An end may still answer by a resolver: the request that brings it has arrived, its handler has it, or a name holds it.
+-- An end may still answer by a resolver: the request that brings it has arrived, its handler has it, or a name is for
+-- it.
 pub data MayAnswer (arrived : List Item) (stack : List StackEntry) (names : List Naming) (r : Resolver) : Type 0 where
   has_arrived : (m : Message) (sync : Bool) (level : Level) → In (item.Message m sync level) arrived → BringsResolver r m → MayAnswer arrived stack names r
   is_handled : (entry : StackEntry) → In entry stack → has_resolver r.seq entry ≡ true → resolver_in entry ≡ r → MayAnswer arrived stack names r
   is_kept : (naming : Naming) → In naming names → naming.holds ≡ resolver r → MayAnswer arrived stack names r
 
--- An answer that the first end waits for is under way: its request is in the outbox or on the link to the other end, the
--- other end may answer it, or the answer is on the link back or has arrived.
+-- An answer that the first end waits for is pending: its request is in the outbox or on the link to the other end,
+-- the other end may answer it, or the answer is on the link back or has arrived.
 pub data IsUnderWay (mine theirs : End) (to_me to_them : List Packet) (r : Resolver) : Type 0 where
   is_kept_back : (m : Message) → In m mine.outbox → BringsResolver r m → IsUnderWay mine theirs to_me to_them r
   goes_there : (m : Message) → In (message m) to_them → BringsResolver r m → IsUnderWay mine theirs to_me to_them r
@@ -58,7 +59,7 @@ pub data IsUnderWay (mine theirs : End) (to_me to_them : List Packet) (r : Resol
   comes_back : (m : Message) → In (message m) to_me → AnswersFor r m → IsUnderWay mine theirs to_me to_them r
   is_back : (m : Message) (sync : Bool) (level : Level) → In (item.Message m sync level) mine.arrived → AnswersFor r m → IsUnderWay mine theirs to_me to_them r
 
--- In every run, while both ends are open, the answer to each pending promise is under way.
+-- In every run, while both ends are open, the answer to each pending promise can still come.
 abbrev pub PromisesAreUnderWay : Type 0
 PromisesAreUnderWay =
     (schema : Schema) → IsSound schema → (top : ℕ) (moves : List Move) (side : Side) (entry : PromiseEntry)
@@ -66,14 +67,14 @@ PromisesAreUnderWay =
     → In entry (end_of side (world_of schema top moves)).promises → is_pending entry.promise ≡ true
     → IsUnderWay (end_of side (world_of schema top moves)) (end_of (other side) (world_of schema top moves)) (link_to side (world_of schema top moves)) (link_to (other side) (world_of schema top moves)) (resolver_for entry)
 
--- One of these names holds a resolver, and no other does.
+-- Exactly one of these names is for a resolver.
 pub record IsKeptOnce (names : List Naming) (r : Resolver) : Type 0 where
   pub naming : Naming
   pub kept : In naming names
   pub holds : naming.holds ≡ resolver r
   pub once : how_many (names_resolver r.seq) names ≡ 1
 
--- So in a still world the other end keeps the resolver of each pending promise of an open end, under exactly one name.
+-- In a still world the other end keeps the resolver of each pending promise of an open end, under exactly one name.
 abbrev pub StillPromisesAreKept : Type 0
 StillPromisesAreKept =
     (schema : Schema) → IsSound schema → (top : ℕ) (moves : List Move) (side : Side) (entry : PromiseEntry)

@@ -1,6 +1,8 @@
-//! What happens by itself at the ends of a channel comes to an end (docs/nesting.md): each such event makes the weight of
-//! the world less, an act adds at most so much to it, and when nothing can happen any more no end waits and nothing is
-//! left. No function that runs.
+//! What happens by itself at the ends of a channel comes to an end (docs/nesting.md): each such event lowers
+//! the weight
+//! of the world, and an act adds a bounded amount to it. When nothing more can happen, no end waits and
+//! nothing is left.
+//! No function of this crate computes anything.
 #![tactic(auto)]
 
 mod laws;

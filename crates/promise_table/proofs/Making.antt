@@ -3,7 +3,7 @@ use Rattle.std.proofs.Common.{◌≡◌, ◌≢◌, ◌⊎◌, inl, inr, ℕ, �
 use Rattle.std.proofs.lemmas.Bool.{cases_Bool}
 use Rattle.std.proofs.lemmas.Bool.Decides.{Decides-int_eq}
 use Rattle.std.specs.Option.{option_map}
-use Rattle.linked_lists.specs.declared.link.Link.{Link}
+use Rattle.linked_lists.specs.declared.link.NodeLink.{NodeLink}
 use Rattle.linked_lists.specs.declared.link.Ends.{Ends}
 use Rattle.linked_lists.specs.Neighbours.{IsIn, AreDistinct, head, last}
 use Rattle.linked_lists.specs.Chains.{attached, IsChain}
@@ -113,7 +113,7 @@ module _ (node node1 node2 node3 : ℕ → Option Node) (keys : List ℕ) (pendi
   own3 a = elim (int_cases actor a) [
     | inl e ↦ subst (λ v. IsChain (link_of Own) node3 (chosen_keys (is_pending_of v) (item_at node3) (keys ++ key ∷ []))) e (subst (IsChain (link_of Own) node3) (sym (with_new (is_pending_of actor) mine))
         (chain-attached (link_of Own) (with_link Own) (λ l m. refl) node2 node3 (those (is_pending_of actor)) key at3' (those-once _) (those-not _) (own2 actor) _ there2
-        (ap (λ (l : Link). l.next) (attached-keeps (link_of All) (with_link All) (link_of Own) (λ l m. refl) pending.last key key (fresh_node seq actor)))))
+        (ap (λ (l : NodeLink). l.next) (attached-keeps (link_of All) (with_link All) (link_of Own) (λ l m. refl) pending.last key key (fresh_node seq actor)))))
     | inr n ↦ subst (IsChain (link_of Own) node3) (sym (without_new (is_pending_of a) (ap (λ v. v && true) n)))
         (chain-beside-attached (link_of Own) (with_link Own) (λ l m. refl) node2 node3 (those (is_pending_of actor)) key at3' (those-once _) (those-not _) (those (is_pending_of a)) (λ k h. (
           (λ q. true≢false (sym (int_same actor a (of_one actor a (item_at node k) (chosen-in _ (item_at node) k keys q).1 (chosen-in _ (item_at node) k keys h).1)) ∙ n)),

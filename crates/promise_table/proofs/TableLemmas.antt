@@ -2,7 +2,7 @@
 use Rattle.std.proofs.Common.{◌≡◌, ◌≢◌, ℕ, ℤ, true, ◌&&◌, is_some, cond, List, [], ◌∷◌, ◌++◌, Option, Some, None, refl, sym, ap, ◌∙◌, subst, int_eq}
 use Rattle.std.specs.Option.{option_map}
 use Rattle.slab.specs.Slab.{Slab, get, Updates}
-use Rattle.linked_lists.specs.declared.link.Link.{Link}
+use Rattle.linked_lists.specs.declared.link.NodeLink.{NodeLink}
 use Rattle.linked_lists.specs.declared.link.Ends.{Ends}
 use Rattle.linked_lists.specs.Neighbours.{IsIn, head}
 use Rattle.linked_lists.specs.Chains.{attached, detached}
@@ -34,7 +34,7 @@ moved node node' keys keys' pending pending' actors actors' ids ids' n k p a i s
     (subst (λ v. AreLinked node keys pending v ids') a'
     (subst (λ v. AreLinked node keys pending actors v) i' s))))
 
--- the nodes stand for these promises
+-- the nodes represent these promises
 pub record Holds (t : Table) (promises : List Promise) : Type 0 where
   pub table : IsTable t
   pub promises_are : promises_in t ≡ promises
@@ -69,7 +69,7 @@ make t t' r n1 n2 key seq actor ends s unmade res free up at2 at3 ee ep eo ei ek
 
 -- ---- a promise is settled
 
-module _ (t : Table) (key : ℕ) (all own : Link) (actor : ℤ) (s : IsTable t) (w : IsPendingAt t key) (told : Some (all, own, actor) ≡ option_map links_of (node_at t key)) where
+module _ (t : Table) (key : ℕ) (all own : NodeLink) (actor : ℤ) (s : IsTable t) (w : IsPendingAt t key) (told : Some (all, own, actor) ≡ option_map links_of (node_at t key)) where
   node_was : (n : Node) × (node_at t key ≡ Some n)
   node_was = s.full key w.among
 
@@ -95,7 +95,7 @@ module _ (t : Table) (key : ℕ) (all own : Link) (actor : ℤ) (s : IsTable t) 
       by : (o : Option Ends) → map.get int_eq t.actors actor ≡ o → is_some (map.get int_eq t.actors actor) ≡ true
       by (Some ends) e = ap is_some e
       by None e =
-          let a : actor ≡ node_was.0.promise.actor = ap (λ (v : Link × Link × ℤ). v.2) told_is in
+          let a : actor ≡ node_was.0.promise.actor = ap (λ (v : NodeLink × NodeLink × ℤ). v.2) told_is in
           let none : ends_of (chosen_keys (is_pending_of actor) (promise_at t) (keys_of t)) ≡ record { first = None; last = None } = sym (s.own_ends actor) ∙ ap ends_or e in
           absurd (some (chosen_keys (is_pending_of actor) (promise_at t) (keys_of t)) (subst (λ v. IsIn key (chosen_keys (is_pending_of v) (promise_at t) (keys_of t))) (sym a) in_own) (ap (λ (v : Ends). v.first) none))
 
@@ -111,9 +111,9 @@ module _ (t : Table) (key : ℕ) (all own : Link) (actor : ℤ) (s : IsTable t) 
       → IsTable t'
   settle t' n1 n2 outcome at1 others at2 at3 ek ep eo ei =
       let n = node_was.0 in
-      let ea : all ≡ n.all = ap (λ (v : Link × Link × ℤ). v.0) told_is in
-      let eo' : own ≡ n.own = ap (λ (v : Link × Link × ℤ). v.1) told_is in
-      let ew : actor ≡ n.promise.actor = ap (λ (v : Link × Link × ℤ). v.2) told_is in
+      let ea : all ≡ n.all = ap (λ (v : NodeLink × NodeLink × ℤ). v.0) told_is in
+      let eo' : own ≡ n.own = ap (λ (v : NodeLink × NodeLink × ℤ). v.1) told_is in
+      let ew : actor ≡ n.promise.actor = ap (λ (v : NodeLink × NodeLink × ℤ). v.2) told_is in
       let stand = settles (node_at t) (get n1) (get n2) (node_at t') (keys_of t) t.pending (own_of t) (id_of t) key n outcome s w.among node_was.1 pends
       (at1 ∙ ap (option_map (with_outcome outcome)) node_was.1) others
       (λ k. at2 k ∙ ap (λ v. option_map (detached (link_of All) (with_link All) v k) (get n1 k)) ea)

@@ -1,4 +1,4 @@
--- The lists on which pending promises stand.
+-- The lists that pending promises are on.
 use Rattle.std.specs.Prelude.{◌≡◌, ℕ, ℤ, List, Option, Some}
 use Rattle.std.specs.Option.{option_map}
 use Rattle.linked_lists.specs.declared.link.Ends.{Ends}
@@ -16,7 +16,7 @@ use Rattle.promise_table.specs.Nodes.{link_of}
 abbrev pub item_at : (ℕ → Option Node) → ℕ → Option Promise
 item_at node k = option_map (λ n. n.promise) (node k)
 
--- the nodes of these keys stand for promises, the pending ones on a list of all and on one of each actor, and a number
+-- the nodes of these keys represent promises, the pending ones on a list of all and on one of each actor, and a number
 -- has the key of its promise
 pub record AreLinked (node : ℕ → Option Node) (keys : List ℕ) (pending : Ends) (actors : ℤ → Ends) (ids : ℤ → Option ℕ) : Type 0 where
   pub distinct : AreDistinct keys

@@ -1,10 +1,10 @@
--- The nodes of the promises, and what they stand for.
+-- The nodes of the promises, and what they represent.
 use Rattle.std.specs.Prelude.{◌≡◌, ℕ, ℤ, true, List, Option, Some, None}
 use Rattle.std.specs.Ordering.{int_eq}
 use Rattle.linked_lists.specs.declared.link.Ends.{Ends}
 use Rattle.linked_lists.specs.Chosen.{items_of, passes}
 use Rattle.linked_lists.specs.Neighbours.{IsIn}
-use Rattle.linked_lists.specs.declared.link.Link.{Link}
+use Rattle.linked_lists.specs.declared.link.NodeLink.{NodeLink}
 use Rattle.linked_lists.specs.Links.{no_ends}
 use Rattle.promise_table.specs.declared.promise.Promise.{Promise}
 use Rattle.promise_table.specs.declared.node.Node.{Node}
@@ -44,7 +44,7 @@ keys_of t = t.keys.keys
 abbrev pub promises_in : Table → List Promise
 promises_in t = items_of (item_at (node_at t)) (keys_of t)
 
--- the nodes stand for the promises
+-- the nodes represent the promises
 abbrev pub IsTable : Table → Type 0
 IsTable t = AreLinked (node_at t) (keys_of t) t.pending (own_of t) (id_of t)
 
@@ -53,7 +53,7 @@ abbrev pub promise_at : Table → ℕ → Option Promise
 promise_at t = item_at (node_at t)
 
 -- the links of a promise and the actor that it is of
-abbrev pub links_of : Node → Link × Link × ℤ
+abbrev pub links_of : Node → NodeLink × NodeLink × ℤ
 links_of n = (n.all, n.own, n.promise.actor)
 
 -- the node, once its promise has that outcome

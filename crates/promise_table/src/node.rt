@@ -2,7 +2,7 @@
 ghost use Rattle.promise_table.specs.Nodes.{link_of, with_link, reads_back};
 
 use crate::promise::Promise;
-use linked_lists::{Link, LinkedNode};
+use linked_lists::{LinkedNode, NodeLink};
 
 /// The lists that a pending promise is on: of all, and of its actor's own.
 #[derive(Clone, Copy)]
@@ -15,8 +15,8 @@ pub(crate) enum Chain {
 #[derive(Drop)]
 pub(crate) struct Node {
     pub(crate) promise: Promise,
-    pub(crate) all: Link,
-    pub(crate) own: Link,
+    pub(crate) all: NodeLink,
+    pub(crate) own: NodeLink,
 }
 
 impl LinkedNode for Node {
@@ -26,14 +26,14 @@ impl LinkedNode for Node {
 
     ghost with_link = { with_link };
 
-    fn link(&self, chain: Chain) -> Link {
+    fn link(&self, chain: Chain) -> NodeLink {
         match chain {
             Chain::All => self.all,
             Chain::Own => self.own,
         }
     }
 
-    fn set_link(&mut self, chain: Chain, link: Link) {
+    fn set_link(&mut self, chain: Chain, link: NodeLink) {
         match chain {
             Chain::All => self.all = link,
             Chain::Own => self.own = link,

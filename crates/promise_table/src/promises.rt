@@ -19,8 +19,8 @@ use ipdl_base::Reason;
 use std::alloc::{AllocError, Global};
 use std::marker::Model;
 
-/// The promises that an end has made, which contracts see as a list in the order of making. No two
-/// have one number. Only `new` and `make` take memory.
+/// The promises that an end has made. Contracts see them as a list in the order of making. No two
+/// have the same number. Only `new` and `make` take memory.
 #[derive(Drop)]
 pub struct Promises {
     table: Table,
@@ -45,7 +45,8 @@ impl Model for Promises {
 }
 
 impl Promises {
-    /// No promises. They take the memory that they need from `alloc`; the only error is want of it.
+    /// Returns a table without promises, which takes its memory from `alloc`. Fails only if memory
+    /// runs out.
     pub fn new(alloc: Global) -> Result<Promises, AllocError>
         ensures { IfOk result (λ promises. promises ≡ []) }
     {
@@ -54,8 +55,8 @@ impl Promises {
         })
     }
 
-    /// Makes a pending promise of a number that no promise has. It goes last. Want of memory
-    /// changes nothing.
+    /// Appends a pending promise of a number that no promise has. If memory runs out, nothing
+    /// changes.
     pub fn make(&mut self, seq: i32, actor: i32) -> Result<(), AllocError>
         requires { IsUnmade self.old seq }
         ensures ok { OnOk result (self.new ≡ self.old ++ made seq actor ∷ []) }
@@ -64,8 +65,8 @@ impl Promises {
         self.table.make(seq, actor)
     }
 
-    /// Settles the promise of this number, and says how it found it. Only one that was pending
-    /// until now changes.
+    /// Settles the promise of this number, and returns what it found. Only a pending promise
+    /// changes.
     pub fn settle(&mut self, seq: i32, outcome: Outcome) -> Settling
         ensures answer { result ≡ settling_of (promise_of self.old seq) }
         ensures settled { self.new ≡ with_settled self.old seq outcome }
@@ -76,8 +77,8 @@ impl Promises {
         self.table.settle(seq, outcome)
     }
 
-    /// One step of a rejection of the actor's promises: the oldest of them that pends is rejected and
-    /// its number is given. `None` says that none of them pends.
+    /// Rejects the oldest pending promise of an actor and returns its number, or `None` if the
+    /// actor has none.
     pub fn reject_of(&mut self, actor: i32, reason: Reason) -> Option<i32>
         ensures oldest { result ≡ oldest (is_pending_of actor) self.old }
         ensures rejected { self.new ≡ with_rejected self.old result reason }
@@ -86,8 +87,8 @@ impl Promises {
         self.table.reject_of(actor, reason)
     }
 
-    /// One step of a rejection of all promises, of whatever actor: the oldest that pends is rejected
-    /// and its number is given. `None` says that nothing pends any more, so the rejection is over.
+    /// Rejects the oldest pending promise of any actor and returns its number, or `None` if no
+    /// promise is pending.
     pub fn reject_all(&mut self, reason: Reason) -> Option<i32>
         ensures oldest { result ≡ oldest is_pending self.old }
         ensures rejected { self.new ≡ with_rejected self.old result reason }

@@ -10,11 +10,12 @@ use crate::node::{Chain, Node};
 use crate::promise::{Outcome, Promise, Settling};
 use indexmap::IndexMap;
 use ipdl_base::Reason;
-use linked_lists::{Ends, KeyStep, Keys, Link, attach, detach};
+use linked_lists::{Ends, KeyStep, Keys, NodeLink, attach, detach};
 use slab::Slab;
 use std::alloc::{AllocError, Global};
 
-/// The nodes of the promises, the key of each by its number, and the ends of the lists of the pending ones.
+/// The nodes of the promises, the key of each by its number, and the ends of the lists of pending
+/// promises.
 #[derive(Drop)]
 pub(crate) struct Table {
     pub(crate) nodes: Slab<Node>,
@@ -27,7 +28,7 @@ pub(crate) struct Table {
 impl Table {
     ghost use Rattle.promise_table.specs.Table.{own_at, node_at, own_of, id_of, keys_of, promises_in, promise_at, links_of, with_outcome, outcome_set, seq_of, IsPendingAt, IsTable};
 
-    // The ends of the list of an actor.
+    // Returns the ends of the list of an actor.
     fn own(actors: &IndexMap<i32, Ends>, actor: &i32) -> Ends
         ensures { result ≡ own_at actors.now actor.now }
     {
@@ -37,7 +38,7 @@ impl Table {
         }
     }
 
-    // The ends of the list of an actor change, for which there is room.
+    // Stores the ends of the list of an actor, for which there is room.
     fn put_own(actors: &mut IndexMap<i32, Ends>, actor: i32, ends: Ends)
         requires { 0 < spare actors.old }
         ensures { (a : ℤ) → own_at actors.new a ≡ (if int_eq actor a then ends else own_at actors.old a) }
@@ -47,7 +48,7 @@ impl Table {
         }
     }
 
-    // The ends of the list of an actor that has one change.
+    // Stores the ends of the list of an actor that has a list.
     fn set_own(actors: &mut IndexMap<i32, Ends>, actor: &i32, ends: Ends)
         requires { IsSome (get int_eq actors.old actor.now) }
         ensures { (a : ℤ) → own_at actors.new a ≡ (if int_eq actor.now a then ends else own_at actors.old a) }
@@ -70,7 +71,7 @@ impl Table {
         }
     }
 
-    /// Makes a pending promise of a number that no promise has.
+    /// Appends a pending promise of a number that no promise has.
     pub(crate) fn make(&mut self, seq: i32, actor: i32) -> Result<(), AllocError>
         requires table { IsTable self.old }
         requires unmade { id_of self.old seq ≡ None }
@@ -82,7 +83,7 @@ impl Table {
         self.actors.reserve(1)?;
         let key = self.nodes.vacant_key();
         self.ids.insert(seq, key)?;
-        let alone = Link::none();
+        let alone = NodeLink::none();
         self.nodes.insert_reserved(Node {
             promise: Promise {
                 seq,
@@ -101,12 +102,12 @@ impl Table {
         Ok(())
     }
 
-    // Gives the promise of a key an outcome, and tells its links and its actor.
+    // Gives the promise of a key an outcome, and returns its links and its actor.
     fn set_outcome(
         nodes: &mut Slab<Node>,
         key: usize,
         outcome: Outcome,
-    ) -> Option<(Link, Link, i32)>
+    ) -> Option<(NodeLink, NodeLink, i32)>
         ensures told { result ≡ option_map links_of (slab_get nodes.old key) }
         ensures changed { slab_get nodes.new key ≡ option_map (with_outcome outcome) (slab_get nodes.old key) }
         ensures others { (k : ℕ) → k ≢ key → slab_get nodes.new k ≡ slab_get nodes.old k }
@@ -146,7 +147,7 @@ impl Table {
         }
     }
 
-    // The number of the promise of a key.
+    // Returns the number of the promise of a key.
     fn seq_at(&self, key: usize) -> Option<i32>
         ensures { result ≡ option_map seq_of (promise_at self.now key) }
     {
@@ -156,7 +157,7 @@ impl Table {
         }
     }
 
-    /// Settles the promise of this number where it is pending, and says how it found it.
+    /// Settles the promise of this number if it is pending, and returns what it found.
     pub(crate) fn settle(&mut self, seq: i32, outcome: Outcome) -> Settling
         requires { IsTable self.old }
         ensures table { IsTable self.new }
@@ -174,7 +175,7 @@ impl Table {
         Settling::Now
     }
 
-    // Rejects the promise of a key, which is the oldest that passes, and gives its number.
+    // Rejects the promise of a key, which is the oldest that passes, and returns its number.
     fn reject(&mut self, key: usize, reason: Reason) -> Option<i32>
         requires table { IsTable self.old }
         requires pending { IsPendingAt self.old key }
@@ -187,7 +188,7 @@ impl Table {
         Some(seq)
     }
 
-    /// Rejects the oldest pending promise of an actor, and gives its number.
+    /// Rejects the oldest pending promise of an actor and returns its number, or `None`.
     pub(crate) fn reject_of(&mut self, actor: i32, reason: Reason) -> Option<i32>
         requires { IsTable self.old }
         ensures table { IsTable self.new }
@@ -198,7 +199,7 @@ impl Table {
         self.reject(key, reason)
     }
 
-    /// Rejects the oldest pending promise, and gives its number.
+    /// Rejects the oldest pending promise and returns its number, or `None`.
     pub(crate) fn reject_all(&mut self, reason: Reason) -> Option<i32>
         requires { IsTable self.old }
         ensures table { IsTable self.new }

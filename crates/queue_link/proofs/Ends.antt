@@ -1,4 +1,4 @@
--- How both stand at the end of a run is a relay: packets and stamps that came to each are a prefix of what the other has sent.
+-- The states of both sides at the end of a run are a relay: packets and stamps that came to each are a prefix of what the other has sent.
 use Rattle.std.proofs.Common.{◌≡◌, ◌⊎◌, inl, inr, ⊎_elim, Bool, true, false, ◌&&◌, ◌||◌, is_some, ℕ, List, [], ◌∷◌, ◌++◌, drop, length, map, None, refl, sym, ap, subst, ◌∙◌, append-nil, append_assoc}
 use Rattle.std.proofs.lemmas.List.{append_cancel_left, map-append}
 use Rattle.std.proofs.Math.Seq.{drop-append_seam}
@@ -6,7 +6,7 @@ use Rattle.std.specs.List.{AllByRecursion}
 use Rattle.handler_script.specs.ScriptOf.{first_of}
 use Rattle.channel_core.specs.EndView.{IsFramed, packet_of, packets_of}
 use Rattle.channel_model.specs.Ends as model
-use Rattle.channel_model.specs.Numbers.{other}
+use Rattle.ipdl_base.specs.Sides.{other}
 use Rattle.channel_model.specs.Outputs.{is_open}
 use Rattle.end_parts.specs.declared.packet.Packet.{Packet}
 use Rattle.end_parts.specs.declared.packet.Packet.TheVariants.{Broken}
@@ -14,7 +14,7 @@ use Rattle.end_parts.specs.PacketReading.{packet_read}
 use Rattle.ipdl_base.specs.declared.kinds.Side.{Side}
 use Rattle.ipdl_base.specs.declared.kinds.Side.TheVariants as sides
 use Rattle.ipdl_base.specs.declared.schema.Schema.{Schema}
-use Rattle.relay_history.specs.OneResult.{IsPrefix}
+use Rattle.law_statements.specs.Prefix.{IsPrefix}
 use Rattle.relay_history.specs.Stamps.{StampedHalf}
 use Rattle.relay_history.proofs.Stamps.{stamped_relays_run}
 use Rattle.relay_runs.specs.HalfRuns.{own_event}
@@ -30,7 +30,7 @@ use Rattle.queue_link.specs.declared.packets.StampedPacket.{StampedPacket}
 use Rattle.queue_link.specs.Stamping.{packets_in, stamps_in}
 use Rattle.queue_link.specs.Work.{BothEnd, EndsRelay, IsReadBack, IsOrdered, IsResting, IsSpent, PacketView, Stands, StandsSomehow}
 
--- What is left of packets behind those that were taken.
+-- What is left of packets after those that were taken.
 record IsFront (schema : Schema) (sent taken : List model.Packet) (held : List Packet) : Type 0 where
   waiting : List model.Packet
   is : sent ≡ taken ++ waiting
@@ -48,7 +48,7 @@ module _ (schema : Schema) where
   abbrev read : Packet → model.Packet
   read packet = came_by (packet_read schema packet)
 
-  -- what was popped is read as a front of what was sent
+  -- what was popped is read as a prefix of what was sent
   front : (popped : List Packet) (sent : List model.Packet) (held : List Packet) → AllByRecursion (IsReadBack schema) popped → AllByRecursion (IsFramed schema) sent → packets_of schema sent ≡ popped ++ held → IsFront schema sent (map read popped) held
   front [] sent held reads framed same = record { waiting = sent; is = refl; held_is = sym same }
   front (p ∷ ps) [] held reads framed same = cc
@@ -85,7 +85,7 @@ packet-left false true next h e = e
 packet-left false false next h e = cc
 
 module _ (setting : Setting) where
-  -- What one side has taken is a front of what the other has sent.
+  -- What one side has taken is a prefix of what the other has sent.
   module _ (side other_side : Side) (pushed popped pushed_there popped_there : List StampedPacket) (half half_there : HalfView) where
     taken-front : (in_hands hands_there : List model.Packet) (here : Stands setting side pushed popped half in_hands) (there : Stands setting other_side pushed_there popped_there half_there hands_there) (held : List StampedPacket) → pushed_there ≡ popped ++ held
         → IsFront setting.schema there.state.sent (here.state.came ++ in_hands) (packets_in held)
@@ -105,7 +105,7 @@ module _ (setting : Setting) where
 
   module _ (parent child : HalfView) (down up : PacketView) (down_order : IsOrdered down) (up_order : IsOrdered up) where
     module _ (parent_hands child_hands : List model.Packet) (p : Stands setting sides.Parent down.pushed up.popped parent parent_hands) (c : Stands setting sides.Child up.pushed down.popped child child_hands) where
-      -- the relay whose ends stand so
+      -- the relay of these ends
       abbrev relay : RelayState
       relay = record { parent = p.state; child = c.state }
 
@@ -175,7 +175,7 @@ module _ (setting : Setting) where
               (⊎_elim inl (λ waits. inr (ap is_some (child_none (waits may_down)))) c.no_packet),
         )
 
-    -- one side has something left to do, but as many events as the limit
+    -- one side has something left to do, but has reached the limit
     parent-spent : (p : IsSpent setting sides.Parent down.pushed up.popped parent) → StandsSomehow setting sides.Child up.pushed down.popped child → Relayed setting parent.history child.history (at_limit sides.Parent)
     parent-spent p c =
         let state : RelayState = relay p.in_hands c.in_hands p.stands c.stands in

@@ -9,7 +9,7 @@ use Rattle.end_parts.specs.declared.packet.Packet.{Packet}
 use Rattle.end_parts.specs.PacketReading.{packet_read}
 use Rattle.ipdl_base.specs.declared.kinds.Side.{Side}
 use Rattle.relay_history.specs.Stamps.{StampedHalf}
-use Rattle.relay_runs.specs.HalfRuns.{behind, behind_packet, delivered_for}
+use Rattle.relay_runs.specs.HalfRuns.{after, after_packet, delivered_for}
 use Rattle.script_steps.specs.Choices.{Setting}
 use Rattle.world_core.specs.declared.answers.AcceptAnswer.{AcceptAnswer}
 use Rattle.world_core.specs.declared.answers.AcceptAnswer.TheVariants as accept
@@ -65,13 +65,13 @@ module _ (setting : Setting) where
     pub work-apart : IsAtWork setting side pushed popped half → IsApart half
     work-apart work = record { setting = setting; side = side; state = work.state; handed = work.state.sent; goes = work.goes }
 
-    -- a half that stands so still, behind a call that changed nothing
+    -- a half in the same state, after a call that changed nothing
     abbrev still : (work : IsAtWork setting side pushed popped half) → GoesApart setting side work.state work.state.sent half' → IsAtWork setting side pushed popped half'
     still work goes = record { state = work.state; goes = goes; pushes = work.pushes; pops = work.pops; stamps = work.stamps }
 
     pub own-gives : (work : IsAtWork setting side pushed popped half) (result : StepAnswer) → GoingGives setting side work.state work.state.sent result half' → OwnGives setting side pushed popped result half'
     own-gives work answer.Did gives = record {
-      state = behind work.state gives.output;
+      state = after work.state gives.output;
       handed = work.state.sent;
       goes = gives.goes;
       pushes = work.pushes;
@@ -95,7 +95,7 @@ module _ (setting : Setting) where
 
       accepted : HasAccepted setting side rest.work.state rest.work.state.sent (read value.packet) half' → HandsOver setting side pushed (popped ++ value ∷ []) half'
       accepted has = record {
-        state = behind_packet rest.work.state (read value.packet) (delivered_for setting.schema rest.work.state.end (read value.packet)) has.output;
+        state = after_packet rest.work.state (read value.packet) (delivered_for setting.schema rest.work.state.end (read value.packet)) has.output;
         handed = rest.work.state.sent;
         goes = has.goes;
         pushes = rest.work.pushes;
@@ -138,7 +138,7 @@ module _ (setting : Setting) where
     }
 
   module _ (side : Side) (pushed : List StampedPacket) (half : HalfView) where
-    -- and so does one for which nothing waits
+    -- and so does a half for which nothing waits
     pub empty-resting : (incoming incoming' : PacketView) → incoming' ≡ incoming → (incoming.pushes ≡ true → incoming.pushed ≡ incoming.popped) → HasNoStep setting side pushed incoming.popped half → IsResting setting side pushed incoming' half
     empty-resting incoming incoming' same empty rest = subst (λ (v : PacketView). IsResting setting side pushed v half) (sym same) (record { work = rest.work; none = rest.none; no_packet = inr empty })
 

@@ -1,4 +1,4 @@
--- What steps of both sides make of how both stand.
+-- What steps of both sides make of the states of both.
 use Rattle.std.proofs.Common.{◌≡◌, true, false, List, [], refl, sym, ap, subst, ◌∙◌}
 use Rattle.ipdl_base.specs.declared.kinds.Side.{Side}
 use Rattle.ipdl_base.specs.declared.kinds.Side.TheVariants as sides
@@ -25,7 +25,7 @@ OnlyPopped before after = after ≡ record before { popped = after.popped }
 
 module _ (setting : Setting) where
   module _ (side : Side) (half : HalfView) where
-    -- what is said of lists of packets is said of the same lists
+    -- what holds of lists of packets holds of the same lists
     moved : (F : List StampedPacket → List StampedPacket → Type 0) (pushed pushed' popped popped' : List StampedPacket) → pushed' ≡ pushed → popped' ≡ popped → F pushed popped → F pushed' popped'
     moved F pushed pushed' popped popped' same_pushed same_popped f = subst (λ (ps : List StampedPacket). F ps popped') (sym same_pushed) (subst (λ (ps : List StampedPacket). F pushed ps) (sym same_popped) f)
 
@@ -45,7 +45,7 @@ module _ (setting : Setting) where
     spent-somehow pushed popped is = record { in_hands = is.in_hands; stands = is.stands }
 
   module _ (parent parent' child : HalfView) (down down' up up' : PacketView) (pushes : OnlyPushed down down') (pops : OnlyPopped up up') where
-    -- the child stands as it stood, behind a step of the parent
+    -- the child is as it was, after a step of the parent
     pub child-stays : IsAtWork setting sides.Child up.pushed down.popped child → IsAtWork setting sides.Child up'.pushed down'.popped child
     child-stays work = at-work sides.Child child up.pushed up'.pushed down.popped down'.popped (ap (λ (v : PacketView). v.pushed) pops) (ap (λ (v : PacketView). v.popped) pushes) work
 
@@ -57,42 +57,42 @@ module _ (setting : Setting) where
         subst (λ (s : Side). OneIsSpent setting down' up' s parent' child) (sym gives.0) (gives.1, work-somehow sides.Child child up'.pushed down'.popped (child-stays work))
     first-over answer.NoMemory over work gives = tt
 
-  -- a parent that was at work is so still, behind a step of the child
+  -- a parent that was at work is still so, after a step of the child
   module _ (parent child' : HalfView) (down down' up up' : PacketView) (pushes : OnlyPushed up up') (pops : OnlyPopped down down') where
     parent-stays : IsAtWork setting sides.Parent down.pushed up.popped parent → IsAtWork setting sides.Parent down'.pushed up'.popped parent
     parent-stays work = at-work sides.Parent parent down.pushed down'.pushed up.popped up'.popped (ap (λ (v : PacketView). v.pushed) pops) (ap (λ (v : PacketView). v.popped) pushes) work
 
-    behind-work : (first second : StepAnswer) → is_over first ≡ false → IsAtWork setting sides.Parent down.pushed up.popped parent → StepGives setting sides.Child up down second up' down' child' → ((second ≡ answer.Nothing) → first ≡ answer.Did)
+    following-work : (first second : StepAnswer) → is_over first ≡ false → IsAtWork setting sides.Parent down.pushed up.popped parent → StepGives setting sides.Child up down second up' down' child' → ((second ≡ answer.Nothing) → first ≡ answer.Did)
         → RoundGives setting down' up' (of_round first second) parent child'
-    behind-work answer.Did answer.Did over work gives did = (parent-stays work, gives)
-    behind-work answer.Did answer.Nothing over work gives did = (parent-stays work, gives.2.work)
-    behind-work answer.Did (answer.Spent at) over work gives did =
+    following-work answer.Did answer.Did over work gives did = (parent-stays work, gives)
+    following-work answer.Did answer.Nothing over work gives did = (parent-stays work, gives.2.work)
+    following-work answer.Did (answer.Spent at) over work gives did =
         subst (λ (s : Side). OneIsSpent setting down' up' s parent child') (sym gives.0) (work-somehow sides.Parent parent down'.pushed up'.popped (parent-stays work), gives.1)
-    behind-work answer.Did answer.NoMemory over work gives did = tt
-    behind-work answer.Nothing answer.Did over work gives did = (parent-stays work, gives)
-    behind-work answer.Nothing answer.Nothing over work gives did =
+    following-work answer.Did answer.NoMemory over work gives did = tt
+    following-work answer.Nothing answer.Did over work gives did = (parent-stays work, gives)
+    following-work answer.Nothing answer.Nothing over work gives did =
         let no : answer.Nothing ≡ answer.Did = did refl in
         cc
-    behind-work answer.Nothing (answer.Spent at) over work gives did =
+    following-work answer.Nothing (answer.Spent at) over work gives did =
         subst (λ (s : Side). OneIsSpent setting down' up' s parent child') (sym gives.0) (work-somehow sides.Parent parent down'.pushed up'.popped (parent-stays work), gives.1)
-    behind-work answer.Nothing answer.NoMemory over work gives did = tt
-    behind-work (answer.Spent at) second over work gives did = cc
-    behind-work answer.NoMemory second over work gives did = cc
+    following-work answer.Nothing answer.NoMemory over work gives did = tt
+    following-work (answer.Spent at) second over work gives did = cc
+    following-work answer.NoMemory second over work gives did = cc
 
-    behind-rest : (second : StepAnswer) → IsResting setting sides.Parent down.pushed up parent → StepGives setting sides.Child up down second up' down' child' → RoundGives setting down' up' (of_round answer.Nothing second) parent child'
-    behind-rest answer.Did rest gives = behind-work answer.Nothing answer.Did refl rest.work gives (λ e. cc)
-    behind-rest answer.Nothing rest gives = (
+    following-rest : (second : StepAnswer) → IsResting setting sides.Parent down.pushed up parent → StepGives setting sides.Child up down second up' down' child' → RoundGives setting down' up' (of_round answer.Nothing second) parent child'
+    following-rest answer.Did rest gives = following-work answer.Nothing answer.Did refl rest.work gives (λ e. cc)
+    following-rest answer.Nothing rest gives = (
       subst (λ (v : PacketView). IsResting setting sides.Parent v.pushed up' parent) (sym gives.1) (subst (λ (v : PacketView). IsResting setting sides.Parent down.pushed v parent) (sym gives.0) rest),
       gives.2,
     )
-    behind-rest (answer.Spent at) rest gives = behind-work answer.Nothing (answer.Spent at) refl rest.work gives (λ e. cc)
-    behind-rest answer.NoMemory rest gives = tt
+    following-rest (answer.Spent at) rest gives = following-work answer.Nothing (answer.Spent at) refl rest.work gives (λ e. cc)
+    following-rest answer.NoMemory rest gives = tt
 
-    -- a step of the child behind one of the parent
+    -- a step of the child after a step of the parent
     pub round-gives : (before_down before_up : PacketView) (first second : StepAnswer) → is_over first ≡ false → StepGives setting sides.Parent before_down before_up first down up parent → StepGives setting sides.Child up down second up' down' child'
         → RoundGives setting down' up' (of_round first second) parent child'
-    round-gives before_down before_up answer.Did second over first_gives gives = behind-work answer.Did second over first_gives gives (λ e. refl)
-    round-gives before_down before_up answer.Nothing second over first_gives gives = behind-rest second first_gives.2 gives
+    round-gives before_down before_up answer.Did second over first_gives gives = following-work answer.Did second over first_gives gives (λ e. refl)
+    round-gives before_down before_up answer.Nothing second over first_gives gives = following-rest second first_gives.2 gives
     round-gives before_down before_up (answer.Spent at) second over first_gives gives = cc
     round-gives before_down before_up answer.NoMemory second over first_gives gives = cc
 
@@ -109,7 +109,7 @@ module _ (setting : Setting) where
         subst (λ (s : Setting). IsAtWork s side pushing.pushed popping.popped half) (sym goes.about) (at-work side half [] pushing.pushed [] popping.popped pushed popped begun),
       )
 
-  -- what comes of the work of both
+  -- what results from the work of both
   module _ (parent child : HalfView) (down up : PacketView) where
     pub both-worked : (first second : RunAnswer) → WorkEnds setting sides.Parent down.pushed up.popped first parent → WorkEnds setting sides.Child up.pushed down.popped second child → BothWorked setting down up (of_both first second) parent child
     both-worked run.NoMemory second p c = tt
@@ -120,7 +120,7 @@ module _ (setting : Setting) where
     both-worked (run.Spent at) (run.Spent other) p c = subst (λ (s : Side). OneIsSpent setting down up s parent child) (sym p.0) (p.1, spent-somehow sides.Child child up.pushed down.popped c.1)
     both-worked (run.Spent at) run.NoMemory p c = tt
 
-  -- the same, where the passes were joined behind the work
+  -- the same, where the passes were joined after the work
   module _ (parent child : HalfView) (of_parent of_child : Setting) (same : of_parent ≡ setting) (same' : of_child ≡ setting) where
     pub worked-so : (down up pushing_down popping_down pushing_up popping_up : PacketView) → down ≡ whole pushing_down popping_down → up ≡ whole pushing_up popping_up → (first second : RunAnswer)
         → WorkEnds of_parent sides.Parent pushing_down.pushed popping_up.popped first parent → WorkEnds of_child sides.Child pushing_up.pushed popping_down.popped second child → (told : RunAnswer) → told ≡ of_both first second → BothWorked setting down up told parent child

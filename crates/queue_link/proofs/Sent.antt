@@ -5,7 +5,7 @@ use Rattle.atomic_blocks.proofs.web.Seat.TheSendSync as seat
 use Rattle.atomic_blocks.proofs.web.Web.TheSendSync as web
 use Rattle.crossbeam_queue.proofs.seg_queue.Chained.TheSendSync as chained
 use Rattle.crossbeam_queue.proofs.seg_queue.Ends.TheSendSync as ends
-use Rattle.gates.specs.contracts.Gate as gate
+use Rattle.schedules.specs.contracts.gate.Gate as gate
 use Rattle.queue_link.proofs.packets.StampedPacket.TheSendSync as stamped
 use Rattle.queue_link.specs.contracts.packets.Queues as both_queues
 use Rattle.queue_link.specs.contracts.packets.SidePasses as side_passes

@@ -5,7 +5,7 @@ use Rattle.std.specs.List.{AllByRecursion}
 use Rattle.channel_model.specs.Ends as model
 use Rattle.ipdl_base.specs.declared.kinds.Side.{Side}
 use Rattle.relay_history.specs.Stamps.{IsAbove, StampedHalf, acts, gets}
-use Rattle.relay_runs.specs.HalfRuns.{HalfState, behind, behind_packet, delivered_for, own_event}
+use Rattle.relay_runs.specs.HalfRuns.{HalfState, after, after_packet, delivered_for, own_event}
 use Rattle.script_steps.specs.Choices.{Setting}
 use Rattle.world_core.specs.HalfView.{HalfView}
 use Rattle.world_core.specs.Relaying.{GoesApart, HasAccepted, HasActed}
@@ -31,7 +31,7 @@ all-above came [] = tt
 all-above came (packet ∷ packets) = (above-next came, all-above came packets)
 
 module _ (setting : Setting) (side : Side) where
-  -- what a half holds, by what it has handed out
+  -- what a half has, by what it has handed out
   held-is : (state : HalfState) (handed held : List model.Packet) (half : HalfView) (goes : GoesApart setting side state handed half) → state.sent ≡ handed ++ held → goes.held ≡ held
   held-is state handed held half goes is = append_cancel_left handed goes.held held (sym goes.sent ∙ is)
 
@@ -46,9 +46,9 @@ module _ (setting : Setting) (side : Side) where
   -- Steps
 
   module _ (state : HalfState) (pushed popped : List StampedPacket) (half' : HalfView) (stamped : StampedHalf setting side state (stamps_in pushed) (stamps_in popped)) where
-    pub acted-stamps : (has : HasActed setting side state state.sent half') → StampedHalf setting side (behind state has.output) (stamps_in pushed ++ next-for (stamps_in popped) has.goes.held) (stamps_in popped)
+    pub acted-stamps : (has : HasActed setting side state state.sent half') → StampedHalf setting side (after state has.output) (stamps_in pushed ++ next-for (stamps_in popped) has.goes.held) (stamps_in popped)
     acted-stamps has =
-        let held = held-is (behind state has.output) state.sent has.output.packets half' has.goes refl in
+        let held = held-is (after state has.output) state.sent has.output.packets half' has.goes refl in
         acts state (stamps_in pushed) (stamps_in popped) (next-for (stamps_in popped) has.goes.held) has.own has.output stamped has.within has.is_own has.is_step
         (length-map has.goes.held (λ packet. next_stamp (stamps_in popped)) ∙ ap length held) (all-above (stamps_in popped) has.goes.held)
 
@@ -57,12 +57,12 @@ module _ (setting : Setting) (side : Side) where
     more-popped value = map-append (λ (v : StampedPacket). v.stamp.at) popped (value ∷ [])
 
     pub accepted-stamps : (value : StampedPacket) (came : model.Packet) → own_event setting side state ≡ None → (has : HasAccepted setting side state state.sent came half')
-        → StampedHalf setting side (behind_packet state came (delivered_for setting.schema state.end came) has.output) (stamps_in pushed ++ next-for (stamps_in (popped ++ value ∷ [])) has.goes.held) (stamps_in (popped ++ value ∷ []))
+        → StampedHalf setting side (after_packet state came (delivered_for setting.schema state.end came) has.output) (stamps_in pushed ++ next-for (stamps_in (popped ++ value ∷ [])) has.goes.held) (stamps_in (popped ++ value ∷ []))
     accepted-stamps value came none has =
-        let after : HalfState = behind_packet state came (delivered_for setting.schema state.end came) has.output in
-        let held = held-is after state.sent has.output.packets half' has.goes refl in
+        let next : HalfState = after_packet state came (delivered_for setting.schema state.end came) has.output in
+        let held = held-is next state.sent has.output.packets half' has.goes refl in
         let all : List ℕ = stamps_in popped ++ value.stamp.at ∷ [] in
-        subst (λ (ns : List ℕ). StampedHalf setting side after (stamps_in pushed ++ next-for ns has.goes.held) ns) (sym (more-popped value))
+        subst (λ (ns : List ℕ). StampedHalf setting side next (stamps_in pushed ++ next-for ns has.goes.held) ns) (sym (more-popped value))
         (gets state (stamps_in pushed) (stamps_in popped) (next-for all has.goes.held) came value.stamp.at has.output stamped has.within none has.opened has.is_step
         (length-map has.goes.held (λ packet. next_stamp all) ∙ ap length held) (all-above all has.goes.held))
 

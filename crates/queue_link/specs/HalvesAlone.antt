@@ -2,7 +2,7 @@
 use Rattle.std.specs.Prelude.{List}
 use Rattle.ipdl_base.specs.declared.kinds.Side.{Side}
 use Rattle.ipdl_base.specs.declared.line.Line.{Line}
-use Rattle.channel_model.specs.Numbers.{other}
+use Rattle.ipdl_base.specs.Sides.{other}
 use Rattle.relay_laws.specs.Laws.{ObeysAlone}
 use Rattle.relay_runs.specs.RelaySteps.{half_of}
 use Rattle.relay_runs.specs.Relays.{Relayed}

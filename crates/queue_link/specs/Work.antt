@@ -1,4 +1,4 @@
--- How a side stands that works with two queues: it pushes what its half sends, and pops what comes to it.
+-- The state of a side that works with two queues: it pushes what its half sends, and pops what comes to it.
 use Rattle.std.specs.Prelude.{◌≡◌, ◌⊎◌, Bool, true, false, is_some, List, [], ◌∷◌, ◌++◌, map, None}
 use Rattle.std.specs.List.{AllByRecursion}
 use Rattle.ipdl_base.specs.declared.kinds.Side.{Side}
@@ -39,8 +39,8 @@ pub record HasTaken (setting : Setting) (popped : List Packet) (taken : List mod
   pub is : taken ≡ map (λ packet. came_by (packet_read setting.schema packet)) popped
   pub reads : AllByRecursion (IsReadBack setting.schema) popped
 
--- A half goes apart. It has handed out what was pushed, and what was popped has come to it. The packets that it still holds
--- are to have the next stamp.
+-- A half runs by itself. It has handed out what was pushed, and what was popped has come to it. The packets that it still has
+-- get the next stamp.
 pub record HandsOver (setting : Setting) (side : Side) (pushed popped : List StampedPacket) (half : HalfView) : Type 0 where
   pub state : HalfState
   pub handed : List model.Packet
@@ -49,7 +49,7 @@ pub record HandsOver (setting : Setting) (side : Side) (pushed popped : List Sta
   pub pops : HasTaken setting (packets_in popped) state.came
   pub stamped : StampedHalf setting side state (stamps_in pushed ++ map (λ packet. next_stamp (stamps_in popped)) goes.held) (stamps_in popped)
 
--- A half goes apart. All that it has sent was pushed, and what was popped has come to it, but for what is in its hands.
+-- A half runs by itself. All that it has sent was pushed, and what was popped has come to it, but for what is in its hands.
 pub record Stands (setting : Setting) (side : Side) (pushed popped : List StampedPacket) (half : HalfView) (in_hands : List model.Packet) : Type 0 where
   pub state : HalfState
   pub goes : GoesApart setting side state state.sent half
@@ -76,7 +76,7 @@ pub record IsResting (setting : Setting) (side : Side) (pushed : List StampedPac
   pub none : own_event setting side work.state ≡ None
   pub no_packet : (is_open work.state.end.state ≡ false) ⊎ (incoming.pushes ≡ true → incoming.pushed ≡ incoming.popped)
 
--- It has an own step left, or, while it is open, a packet in its hands, but as many events as the limit.
+-- It has an own step left, or, while it is open, a packet in its hands, but has reached the limit.
 pub record IsSpent (setting : Setting) (side : Side) (pushed popped : List StampedPacket) (half : HalfView) : Type 0 where
   pub in_hands : List model.Packet
   pub stands : Stands setting side pushed popped half in_hands
@@ -134,12 +134,12 @@ HasWorked queues sides.Parent before after setting ended half' =
 HasWorked queues sides.Child before after setting ended half' =
     HasPushed queues.up.queue before.pushing after.pushing × (HasPopped queues.down.queue before.popping after.popping) × WorkEnds setting sides.Child (view_of after.pushing).pushed (view_of after.popping).popped ended half'
 
--- A half stands in some way.
+-- A half is in some state of its work.
 pub record StandsSomehow (setting : Setting) (side : Side) (pushed popped : List StampedPacket) (half : HalfView) : Type 0 where
   pub in_hands : List model.Packet
   pub stands : Stands setting side pushed popped half in_hands
 
--- one side is spent, and the other stands in some way
+-- one side is spent, and the other is in some state of its work
 abbrev pub OneIsSpent : Setting → PacketView → PacketView → Side → HalfView → HalfView → Type 0
 OneIsSpent setting down up sides.Parent parent child = IsSpent setting sides.Parent down.pushed up.popped parent × StandsSomehow setting sides.Child up.pushed down.popped child
 OneIsSpent setting down up sides.Child parent child = StandsSomehow setting sides.Parent down.pushed up.popped parent × IsSpent setting sides.Child up.pushed down.popped child
@@ -186,7 +186,7 @@ of_both first run.NoMemory = run.NoMemory
 of_both (run.Spent side) second = run.Spent side
 of_both run.Finished second = second
 
--- both are between two steps behind their work; or one is spent; or memory ran out
+-- both are between two steps after their work; or one is spent; or memory ran out
 abbrev pub BothWorked : Setting → PacketView → PacketView → RunAnswer → HalfView → HalfView → Type 0
 BothWorked setting down up run.Finished parent child = AreAtWork setting down up parent child
 BothWorked setting down up (run.Spent side) parent child = OneIsSpent setting down up side parent child

@@ -1,5 +1,5 @@
-//! Both ends of a run at once, each on a thread of its own, whose only meeting are two queues
-//! (docs/relay.md).
+//! Runs both ends of a run at once, each on a thread of its own. They share two queues and a gate, and
+//! nothing else (docs/relay.md).
 #![tactic(auto)]
 
 mod packets;
@@ -9,5 +9,5 @@ mod turns;
 mod two_queues;
 mod workers;
 
-pub use gates::{Gate, MeetingPoint};
+pub use schedules::{Gate, MeetingPoint};
 pub use two_queues::TwoQueues;

@@ -1,4 +1,4 @@
-//! The queues of packets between both ends, and the passes of those who push to them and pop from them.
+//! The queues of packets between both ends, and the passes that push to them and pop from them.
 use crate::stamp::Stamp;
 use channel_core::Packet;
 use ordered_queue::{OrderedQueue, QueuePass};
@@ -25,7 +25,7 @@ pub struct Queues {
     pub(crate) up: PacketQueue,
 }
 
-/// The passes of one side: it pushes to the queue to the other one, and pops from the queue to itself.
+/// The passes of one side, which pushes to the queue to the other side and pops from the queue to itself.
 #[derive(Drop)]
 pub struct SidePasses {
     pub(crate) pushing: PacketPass,

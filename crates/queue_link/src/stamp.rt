@@ -20,7 +20,7 @@ impl Model for Stamp {
 unsafe impl Send for Stamp {}
 
 impl Stamp {
-    /// A stamp, of the number that the caller's proof picks.
+    /// Creates a stamp with the number that the caller's proof picks.
     pub fn new() -> Stamp
         ghost n: { ℕ }
         ensures { result.at ≡ n }

@@ -15,7 +15,7 @@ use std::alloc::AllocError;
 use std::sync::Wait;
 use world_core::{Half, StepAnswer, turn_answer};
 
-// A packet with a stamp. Proofs pick the number, above those of all that was popped by the pass.
+// Stamps a packet. Proofs pick the number, above those of all that the pass has popped.
 fn stamped(packet: Packet, _popping: &PacketPass) -> StampedPacket
     ghost n: { ℕ }
     ensures packet { result.packet ≡ packet }
@@ -27,8 +27,8 @@ fn stamped(packet: Packet, _popping: &PacketPass) -> StampedPacket
     }
 }
 
-// Pushes the next packet that the half has not handed out, and says whether there was one. The only
-// error is that memory ran out.
+// Pushes the next packet that the half has not handed out, and returns whether there was one. Fails only
+// if memory runs out.
 fn push_next<R: Wait>(
     rt: &R,
     queue: &PacketQueue,
@@ -49,7 +49,7 @@ fn push_next<R: Wait>(
     Ok(true)
 }
 
-// Pushes all packets that the half has not handed out. The only error is that memory ran out.
+// Pushes all packets that the half has not handed out. Fails only if memory runs out.
 fn hand_over<R: Wait>(
     rt: &R,
     queue: &PacketQueue,
@@ -71,7 +71,7 @@ fn hand_over<R: Wait>(
     unreachable!()
 }
 
-// What a step answers that was done, where there was memory for what it sent.
+// Returns what a step answers that was made, by whether there was memory for what it sent.
 fn done(handed_over: Result<(), AllocError>) -> StepAnswer
     ensures { MatchResult handed_over (λ _. result ≡ answer.Did) (λ _. result ≡ answer.NoMemory) }
 {
@@ -81,7 +81,7 @@ fn done(handed_over: Result<(), AllocError>) -> StepAnswer
     }
 }
 
-// An own step of the half.
+// Makes an own step of the half.
 fn go_on(half: &mut Half<'_>) -> StepAnswer
     ghost at: { Setting × EndSide }
     requires { (pushed : List OfStamped) × (popped : List OfStamped) × IsAtWork at.0 at.1 pushed popped half.old }
@@ -90,7 +90,7 @@ fn go_on(half: &mut Half<'_>) -> StepAnswer
     half.go_on()
 }
 
-// A delivery to an open half that has no own step, of a packet that was popped for it.
+// Delivers a popped packet to an open half that has no own step.
 fn accept(half: &mut Half<'_>, value: &StampedPacket) -> StepAnswer
     ghost at: { Setting × EndSide }
     requires rests { (pushed : List OfStamped) × (popped : List OfStamped) × HasNoStep at.0 at.1 pushed popped half.old }
@@ -101,7 +101,7 @@ fn accept(half: &mut Half<'_>, value: &StampedPacket) -> StepAnswer
     turn_answer(half.accept(&value.packet))
 }
 
-// The same, with what the half sends by it pushed.
+// Delivers a popped packet, and pushes what the half sends by that.
 fn deliver<R: Wait>(
     rt: &R,
     queue: &PacketQueue,
@@ -123,7 +123,7 @@ fn deliver<R: Wait>(
     }
 }
 
-// The delivery of the next packet to a half that has no own step.
+// Delivers the next packet to a half that has no own step.
 fn take<R: Wait>(
     rt: &R,
     out: &PacketQueue,
@@ -149,9 +149,9 @@ fn take<R: Wait>(
     }
 }
 
-/// One step of a half: its own, or else, while its end is open, the delivery of the packet that comes
-/// next. What it sends by it is pushed. `Nothing` comes where it has neither, and `Spent` where it has
-/// one but as many events as it may have.
+/// Makes one step of a half: its own, or else, while its end is open, the delivery of the packet that comes
+/// next. Pushes what the half sends by that. Returns `Nothing` if it has neither, and `Spent` if it has one
+/// but has reached its limit of events.
 pub fn step<R: Wait>(
     rt: &R,
     out: &PacketQueue,

@@ -1,4 +1,4 @@
-//! Both halves on one thread, in turn, over their queues.
+//! Steps of both halves on one thread, in turn, over their queues.
 ghost use Rattle.std.specs.Prelude.{◌≡◌, true};
 ghost use Rattle.ipdl_base.specs.declared.kinds.Side.TheVariants as sides;
 ghost use Rattle.ordered_queue.specs.Passes.{HasPopped, HasPushed, MayBoth, view_of};
@@ -10,7 +10,7 @@ use crate::steps::step;
 use std::sync::Wait;
 use world_core::{Half, RunAnswer, StepAnswer};
 
-// Whether a step ends the run.
+// Returns whether a step ends the run.
 fn is_over(answer: StepAnswer) -> bool
     ensures { result ≡ is_over answer }
 {
@@ -20,7 +20,7 @@ fn is_over(answer: StepAnswer) -> bool
     }
 }
 
-// What a step of the child makes of that of the parent before it.
+// Combines a step of the child with the step of the parent before it.
 fn of_round(first: StepAnswer, second: StepAnswer) -> StepAnswer
     ensures { result ≡ of_round first second }
 {
@@ -30,7 +30,7 @@ fn of_round(first: StepAnswer, second: StepAnswer) -> StepAnswer
     }
 }
 
-// A step of the parent.
+// Makes a step of the parent.
 fn parent_step<R: Wait>(
     rt: &R,
     down: &PacketQueue,
@@ -50,7 +50,7 @@ fn parent_step<R: Wait>(
     step(rt, down, up, to_child, to_parent, parent)
 }
 
-// A step of the child.
+// Makes a step of the child.
 fn child_step<R: Wait>(
     rt: &R,
     down: &PacketQueue,
@@ -70,7 +70,7 @@ fn child_step<R: Wait>(
     step(rt, up, down, to_parent, to_child, child)
 }
 
-// A step of each side, the parent's first. `Nothing` comes where neither has anything to do.
+// Makes a step of each side, the parent first. Returns `Nothing` if neither has anything to do.
 fn round<R: Wait>(
     rt: &R,
     down: &PacketQueue,
@@ -96,7 +96,7 @@ fn round<R: Wait>(
     of_round(first, second)
 }
 
-/// Steps of both sides in turn, until neither has anything to do.
+/// Makes steps of both sides in turn, until neither has anything to do.
 pub fn take_turns<R: Wait>(
     rt: &R,
     down: &PacketQueue,

@@ -8,16 +8,16 @@ ghost use Rattle.world_core.specs.WorldView.{opening_of};
 ghost use Rattle.queue_link.specs.HalvesAlone.{ObeyAlone};
 
 use crate::workers::run_apart;
-use gates::Gate;
 use relay_history::relays_come_in_order;
 use relay_laws::relays_obey_alone;
+use schedules::Gate;
 use std::alloc::Global;
 use std::sync::Wait;
 use std::thread::Threads;
 use world_core::{Halves, Relay, RunAnswer, World};
 
-/// Each side of a run on a thread of its own, with a queue to the other one (docs/relay.md). A run may
-/// wait, and what is promised of it holds where it returns.
+/// Runs each side on a thread of its own, with a queue to the other side (docs/relay.md). A run may wait,
+/// and its contract holds if it returns.
 #[derive(Drop)]
 pub struct TwoQueues<'r, R: Threads + Wait + Sync + AllocGlobal> {
     rt: &'r R,
@@ -25,15 +25,15 @@ pub struct TwoQueues<'r, R: Threads + Wait + Sync + AllocGlobal> {
 }
 
 impl<'r, R: Threads + Wait + Sync + AllocGlobal> TwoQueues<'r, R> {
-    /// Creates the relay whose sides pass a gate before each own step, while both go on at once. It takes
-    /// no memory.
+    /// Creates the relay whose sides pass a gate before each own step, while both run at once. Takes no
+    /// memory.
     pub fn new(rt: &'r R, gate: Gate) -> TwoQueues<'r, R>
         ensures { IsSync R.row }
     {
         TwoQueues { rt, gate }
     }
 
-    /// Lends the gate. It takes no memory.
+    /// Lends the gate. Takes no memory.
     pub fn gate(&self) -> &Gate
         ensures { result.now ≡ self.now.gate }
     {
@@ -46,8 +46,8 @@ impl<'r, R: Threads + Wait + Sync + AllocGlobal> Relay for TwoQueues<'r, R> {
 
     ghost ready = { λ _. IsSync R.row };
 
-    /// Runs a world by whatever gate. Beside what every relay promises, for a sound schema each half obeys
-    /// what one end by itself obeys.
+    /// Runs a world by whatever gate. In addition to what every relay promises, each half obeys what one end
+    /// by itself obeys, for a sound schema.
     fn run_queues<'s>(&mut self, world: World<'s>) -> (Halves, RunAnswer)
         requires ready { IsSync R.row }
         requires opening { world ≡ opening_of world.setting }
@@ -61,7 +61,7 @@ impl<'r, R: Threads + Wait + Sync + AllocGlobal> Relay for TwoQueues<'r, R> {
     }
 }
 
-// The run of a world over two queues.
+// Runs a world over two queues.
 fn run_world<'s, R: Threads + Wait + Sync>(
     rt: &R,
     alloc: Global,

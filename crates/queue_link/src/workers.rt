@@ -1,4 +1,4 @@
-//! Each half on a worker of its own, and then both in turn to the end.
+//! Runs each half on a worker of its own, and then both in turn to the end.
 ghost use Rattle.std.specs.Prelude.{◌≡◌, [], true};
 ghost use Rattle.crossbeam_queue.specs.SegTies.{IsSegPassOf};
 ghost use Rattle.ipdl_base.specs.declared.kinds.Side.{Side as EndSide};
@@ -14,14 +14,14 @@ ghost use Rattle.world_core.specs.Relaying.{GoesApart};
 use crate::packets::{PacketPass, PacketQueue, Queues, SidePasses};
 use crate::steps::step;
 use crate::turns::take_turns;
-use gates::Gate;
 use ipdl_base::Side;
+use schedules::Gate;
 use std::alloc::Global;
 use std::sync::Wait;
 use std::thread::{Threads, join_mut};
 use world_core::{Half, RunAnswer, StepAnswer};
 
-// Steps of one side, until it has nothing to do. It passes the gate before each step of its own.
+// Makes steps of one side, until it has nothing to do. Passes the gate before each own step.
 fn work_on<R: Wait>(
     rt: &R,
     gate: &Gate,
@@ -56,7 +56,7 @@ fn work_on<R: Wait>(
     unreachable!()
 }
 
-// The work of the parent, of the run that its half is about.
+// Does the work of the parent, of the run of its half.
 fn work_of_parent<R: Wait>(
     rt: &R,
     gate: &Gate,
@@ -79,7 +79,7 @@ fn work_of_parent<R: Wait>(
     )
 }
 
-// The work of the child, of the run that its half is about.
+// Does the work of the child, of the run of its half.
 fn work_of_child<R: Wait>(
     rt: &R,
     gate: &Gate,
@@ -102,7 +102,7 @@ fn work_of_child<R: Wait>(
     )
 }
 
-// What the work of both sides comes to, by that of each.
+// Combines the results of the work of both sides.
 fn of_both(first: RunAnswer, second: RunAnswer) -> RunAnswer
     ensures { result ≡ of_both first second }
 {
@@ -113,7 +113,7 @@ fn of_both(first: RunAnswer, second: RunAnswer) -> RunAnswer
     }
 }
 
-// The work of both sides, each on a thread of its own.
+// Does the work of both sides, each on a thread of its own.
 fn work_both<'b, 'c, R: Threads + Wait + Sync>(
     rt: &R,
     gate: &Gate,
@@ -142,8 +142,7 @@ fn work_both<'b, 'c, R: Threads + Wait + Sync>(
     (first, second)
 }
 
-// The passes of both sides, made of one for each queue that may push and pop: the parent's and the
-// child's.
+// Splits the pass of each queue, which may push and pop, into the passes of the parent and of the child.
 fn side_passes(
     queues: &Queues,
     mut to_child: PacketPass,
@@ -167,7 +166,7 @@ fn side_passes(
     (of_parent, of_child)
 }
 
-// One pass for each queue again, made of those of both sides: down to the child, and up to the parent.
+// Joins the passes of both sides into one for each queue: down to the child, and up to the parent.
 fn queue_passes(
     queues: &Queues,
     of_parent: SidePasses,
@@ -191,7 +190,7 @@ fn queue_passes(
     (to_child, to_parent)
 }
 
-// The work of both halves as they begin, at once, over new queues whose passes come back whole.
+// Does the work of both halves from their beginning, at once, over new queues. Returns the joined passes.
 fn work_at_once<R: Threads + Wait + Sync>(
     rt: &R,
     gate: &Gate,
@@ -224,7 +223,7 @@ fn work_at_once<R: Threads + Wait + Sync>(
     (to_child, to_parent, of_both(first, second))
 }
 
-// Steps of both in turn, where both worked to their ends and neither is spent.
+// Makes steps of both in turn, if both worked to their ends and neither is spent.
 fn end_in_turn<R: Wait>(
     rt: &R,
     down: &PacketQueue,
@@ -249,7 +248,7 @@ fn end_in_turn<R: Wait>(
     }
 }
 
-// What the pass of a queue has popped and then what the queue holds is what it has pushed.
+// Shows that what a pass has popped, and then what its queue has, is what the pass has pushed.
 fn see_order<R: Wait>(rt: &R, queue: &PacketQueue, pass: &mut PacketPass)
     requires { MayBoth queue.now.queue pass.old }
     ensures same { view_of pass.new ≡ view_of pass.old }
@@ -258,7 +257,7 @@ fn see_order<R: Wait>(rt: &R, queue: &PacketQueue, pass: &mut PacketPass)
     let _held = queue.len(rt, pass);
 }
 
-// The run of both halves over queues as they begin.
+// Runs both halves from their beginning over queues.
 fn run_over<R: Threads + Wait + Sync>(
     rt: &R,
     gate: &Gate,
@@ -295,7 +294,7 @@ fn run_over<R: Threads + Wait + Sync>(
     answer
 }
 
-/// The run of both halves as they begin, at once over two queues, and then in turn to the end.
+/// Runs both halves from their beginning, at once over two queues, and then in turn to the end.
 pub fn run_apart<R: Threads + Wait + Sync>(
     rt: &R,
     alloc: Global,

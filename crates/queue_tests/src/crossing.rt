@@ -1,4 +1,5 @@
-//! Relays whose sides meet at the gate before their first steps, which no relay on one thread passes.
+//! Relays whose sides meet at the gate before their first steps. No relay on one thread passes it.
+
 ghost use Rattle.std.specs.Prelude.{◌≡◌};
 ghost use Rattle.handler_script.specs.Valid.{IsValid};
 ghost use Rattle.ipdl_base.specs.Sound.{IsSound};
@@ -17,8 +18,8 @@ use std::test::Fail;
 use std::thread::Threads;
 use world_core::{Halves, Relay, RunAnswer, World};
 
-/// How many sides missed the other one at the gate of a relay, how many steps each came there with, and
-/// whether the relay printed its text.
+/// How many sides missed the other one at the gate of a relay, how many steps each side brought there,
+/// and whether the relay printed its text.
 #[derive(Clone, Copy)]
 struct Crossing {
     missed: u64,
@@ -27,7 +28,7 @@ struct Crossing {
     prints_text: bool,
 }
 
-/// What any relay makes of a world.
+/// Runs any relay on a world.
 fn run_queues<D: Relay>(relay: &mut D, world: World<'_>) -> (Halves, RunAnswer)
     requires ready { D.ready relay.old }
     requires opening { world ≡ opening_of world.setting }
@@ -35,7 +36,8 @@ fn run_queues<D: Relay>(relay: &mut D, world: World<'_>) -> (Halves, RunAnswer)
     relay.run_queues(world)
 }
 
-/// What is seen of a relay of a script whose sides meet at the gate, and which prints this text.
+/// Returns what is seen of a relay of a script whose sides meet at the gate and which must print this
+/// text.
 fn crossing_of_script<R: Threads + Wait + Sync + AllocGlobal>(
     rt: &R,
     schema: &Schema,
@@ -60,7 +62,7 @@ fn crossing_of_script<R: Threads + Wait + Sync + AllocGlobal>(
     })
 }
 
-/// What is seen of the relay of a row.
+/// Returns what is seen of the relay of a row.
 fn crossing_at_row<R: Threads + Wait + Sync + AllocGlobal>(
     rt: &R,
     name: &str,
@@ -72,9 +74,9 @@ fn crossing_at_row<R: Threads + Wait + Sync + AllocGlobal>(
     crossing_of_script(rt, &schema, &script, row.printed)
 }
 
-/// Each side has four own steps: its call, and what follows of it and of the other's call. It comes to
-/// the gate with its call at least. How many of the others it does before its worker finds nothing to do
-/// depends on the threads.
+/// Each side has four steps of its own: its call, and what follows from it and from the other's call.
+/// It comes to the gate at least with its call. How many of the others it makes before its worker finds
+/// nothing to do depends on the threads.
 #[test]
 fn gate_of_the_race(rt: HostRuntime) -> Result<(), Fail> {
     let seen = crossing_at_row(&rt, "race")?;
@@ -85,8 +87,8 @@ fn gate_of_the_race(rt: HostRuntime) -> Result<(), Fail> {
     Ok(())
 }
 
-/// Each side does all that its main has, three actions and two, and is closed then. So no packet comes to
-/// it, and it comes to the gate exactly so often.
+/// Each side does all actions of its main, three and two, and is closed then. So no packet comes to it,
+/// and it comes to the gate exactly that often.
 #[test]
 fn gate_of_two_closes(rt: HostRuntime) -> Result<(), Fail> {
     let seen = crossing_at_row(&rt, "both-close")?;

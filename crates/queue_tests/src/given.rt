@@ -1,4 +1,5 @@
-//! Scripts of relays, and what a row says of an end.
+//! Scripts of relays, and what the words of a row mean.
+
 ghost use Rattle.std.specs.Prelude.{IfOk};
 ghost use Rattle.ipdl_base.specs.Sound.{IsSound};
 ghost use Rattle.handler_script.specs.Valid.{IsValid};
@@ -9,7 +10,8 @@ use std::alloc::Global;
 use std::test::Fail;
 use world_core::Stop;
 
-/// Scripts. Each has its name and the file of its protocol, and then its text. `====` stands between two.
+/// Scripts. Each has its name and the file of its protocol, and then its text. `====` separates two
+/// scripts.
 const SCRIPTS: &str = "tells PW.ipdl
 parent main
 send top PW.Tell(5)
@@ -160,11 +162,13 @@ end
 /// A script as a text, with the file of its protocol.
 #[derive(Clone, Copy)]
 pub struct Source<'a> {
+    /// The file of its protocol.
     pub file: &'a str,
+    /// The text of the script.
     pub text: &'a str,
 }
 
-/// The script of the table with this name.
+/// Returns the script of the table with this name, if there is one.
 pub fn source_named(name: &str) -> Option<Source<'static>> {
     for row in SCRIPTS.split("====\n") {
         let (head, text) = row.split_once("\n")?;
@@ -176,7 +180,7 @@ pub fn source_named(name: &str) -> Option<Source<'static>> {
     None
 }
 
-/// The number of the protocol with this short name.
+/// Returns the number of the protocol with this short name.
 fn number_of(schema: &Schema, name: &str) -> Result<u32, Fail> {
     let mut number = 0u32;
     for protocol in schema.protocols.as_slice() {
@@ -188,7 +192,7 @@ fn number_of(schema: &Schema, name: &str) -> Result<u32, Fail> {
     Err("no such protocol".into())
 }
 
-/// The script of a text, whose top is the protocol of a file.
+/// Returns the script of a text. Its top is the protocol of a file.
 pub fn script_of(alloc: Global, schema: &Schema, source: Source<'_>) -> Result<Script, Fail>
     requires sound { IsSound schema.now }
     ensures { IfOk result (IsValid schema.now) }
@@ -208,7 +212,7 @@ pub fn script_of(alloc: Global, schema: &Schema, source: Source<'_>) -> Result<S
     )
 }
 
-/// The side of a word.
+/// Returns the side that a word names.
 fn side_of(word: &str) -> Result<Side, Fail> {
     match word {
         "parent" => Ok(Side::Parent),
@@ -217,7 +221,7 @@ fn side_of(word: &str) -> Result<Side, Fail> {
     }
 }
 
-/// The death of an end, or `-` for none.
+/// Returns the death of an end that a text spells; `-` means no death.
 pub fn stop_of(text: &str) -> Result<Option<Stop>, Fail> {
     if text == "-" {
         return Ok(None);
@@ -229,8 +233,8 @@ pub fn stop_of(text: &str) -> Result<Option<Stop>, Fail> {
     }))
 }
 
-/// The text of a script in which each main tells the other side so many times: the parent of a number,
-/// the child by a poke.
+/// Returns the text of a script in which each main sends this many messages to the other side: the
+/// parent a number, the child a poke.
 pub fn tells(alloc: Global, count: u32) -> Result<String, Fail> {
     let mut text = String::new(alloc);
     writeln!(text, "parent main")?;

@@ -1,4 +1,4 @@
-//! Tests of relays whose sides go on at once and meet in two queues alone (docs/relay.md): with what
+//! Tests of relays whose sides run at the same time and meet only in two queues (docs/relay.md): what
 //! each prints, and with a gate at which both sides meet.
 #![tactic(auto)]
 

@@ -1,4 +1,5 @@
 //! What a relay prints.
+
 ghost use Rattle.ipdl_base.specs.Sound.{IsSound};
 
 use history::{History, history_text};
@@ -7,7 +8,7 @@ use std::alloc::Global;
 use std::test::Fail;
 use world_core::{Halves, RunAnswer};
 
-/// The last line of what a relay prints.
+/// Returns the last line of what a relay prints.
 fn ending_of(answer: RunAnswer) -> &'static str {
     match answer {
         RunAnswer::Finished => "finished",
@@ -17,7 +18,7 @@ fn ending_of(answer: RunAnswer) -> &'static str {
     }
 }
 
-/// The lines of one half.
+/// Returns the lines of one half.
 fn half_text(alloc: Global, schema: &Schema, half: &History) -> Result<String, Fail>
     requires { IsSound schema.now }
 {
@@ -25,7 +26,7 @@ fn half_text(alloc: Global, schema: &Schema, half: &History) -> Result<String, F
     Ok(String::from_str(alloc, str::from_utf8(lines.as_slice())?)?)
 }
 
-/// What a relay prints: the lines of the parent, those of the child, and how it ended.
+/// Returns what a relay prints: the lines of the parent, those of the child, and how it ended.
 pub fn printed(
     alloc: Global,
     schema: &Schema,

@@ -1,4 +1,5 @@
 //! Relays on two threads, with what each prints.
+
 ghost use Rattle.std.specs.Prelude.{◌≤◌};
 ghost use Rattle.ipdl_base.specs.Sound.{IsSound};
 ghost use Rattle.handler_script.specs.Valid.{IsValid};
@@ -19,7 +20,7 @@ use world_core::{OneThread, Relay, Stop, World};
 /// How often the relay of each row is run.
 const RUNS_OF_ROW: u32 = 25;
 
-/// What a relay of a script prints whose sides go on at once.
+/// Returns what a relay of a script prints whose sides run at the same time.
 fn printed_at_once<R: Threads + Wait + Sync + AllocGlobal>(
     rt: &R,
     schema: &Schema,
@@ -36,7 +37,7 @@ fn printed_at_once<R: Threads + Wait + Sync + AllocGlobal>(
     printed(rt.alloc(), schema, &halves, answer)
 }
 
-/// What the relay of a script on one thread prints.
+/// Returns what the relay of a script on one thread prints.
 fn printed_in_turn(alloc: Global, schema: &Schema, script: &Script) -> Result<String, Fail>
     requires sound { IsSound schema.now }
     requires valid { IsValid schema.now script.now }
@@ -46,7 +47,7 @@ fn printed_in_turn(alloc: Global, schema: &Schema, script: &Script) -> Result<St
     printed(alloc, schema, &halves, answer)
 }
 
-/// How many of so many relays whose sides go on at once print this text.
+/// Returns how many of this number of relays whose sides run at the same time print this text.
 fn equal_relays<R: Threads + Wait + Sync + AllocGlobal>(
     rt: &R,
     schema: &Schema,
@@ -67,7 +68,7 @@ fn equal_relays<R: Threads + Wait + Sync + AllocGlobal>(
     Ok(good)
 }
 
-/// How many relays of a row print its text.
+/// Returns how many relays of a row print its text.
 fn equal_of_row<R: Threads + Wait + Sync + AllocGlobal>(rt: &R, row: Row<'_>) -> Result<u32, Fail> {
     let source = source_named(row.script).ok_or("no such script")?;
     let stop = stop_of(row.death)?;
@@ -76,7 +77,7 @@ fn equal_of_row<R: Threads + Wait + Sync + AllocGlobal>(rt: &R, row: Row<'_>) ->
     equal_relays(rt, &schema, &script, stop, RUNS_OF_ROW, row.printed)
 }
 
-/// The rows of which a relay prints another text, and how many rows there are.
+/// Returns the rows whose relay prints another text, and how many rows there are.
 fn checked<R: Threads + Wait + Sync + AllocGlobal>(rt: &R) -> Result<String, Fail> {
     let mut shown = String::new(rt.alloc());
     let mut count = 0u32;
@@ -98,18 +99,18 @@ fn relays_of_rows(rt: HostRuntime) -> Result<(), Fail> {
     Ok(())
 }
 
-/// What a relay of two tells prints where each side may have one event.
+/// What a relay of two sends prints if each side may have one event.
 const ONE_EVENT: &str = "parent send 1 to 2147483647 PW.Tell(5)
 child deliver request 1
 spent parent
 ";
 
-/// The same where the child found no packet before it ended.
+/// The same if the child found no packet before it ended.
 const NO_DELIVERY: &str = "parent send 1 to 2147483647 PW.Tell(5)
 spent parent
 ";
 
-/// Whether a relay of two tells where each side may have one event is one of these.
+/// Returns whether a relay of two sends, where each side may have one event, prints one of these.
 fn is_cut<R: Threads + Wait + Sync + AllocGlobal>(rt: &R) -> Result<bool, Fail> {
     let source = source_named("tells").ok_or("no such script")?;
     let schema = schema_of(rt.alloc(), source.file)?;
@@ -125,7 +126,7 @@ fn one_event(rt: HostRuntime) -> Result<(), Fail> {
     Ok(())
 }
 
-/// How many of ten relays of a text print what the relay on one thread prints.
+/// Returns how many of ten relays of a text print what the relay on one thread prints.
 fn same_texts<R: Threads + Wait + Sync + AllocGlobal>(rt: &R, text: &str) -> Result<u32, Fail> {
     let file = "PW.ipdl";
     let schema = schema_of(rt.alloc(), file)?;

@@ -1,7 +1,8 @@
 //! Relays, with what each half prints.
 
-/// Relays. Each row has its name, the name of its script, and the death of an end; and then what it prints,
-/// the lines of the parent before those of the child, worked out from the rules. `====` stands between two rows.
+/// Relays. Each row has its name, the name of its script and the death of an end; and then what it
+/// prints, the lines of the parent before those of the child, worked out from the rules. `====`
+/// separates two rows.
 pub const RELAYS: &str = "two-tells tells -
 parent send 1 to 2147483647 PW.Tell(5)
 parent send 2 to 2147483647 PW.Tell(6)
@@ -458,13 +459,17 @@ finished
 /// A relay: its name, the name of its script, the death of an end, and what it prints.
 #[derive(Clone, Copy)]
 pub struct Row<'a> {
+    /// The name of the row.
     pub name: &'a str,
+    /// The name of its script.
     pub script: &'a str,
+    /// The death of an end, or `-`.
     pub death: &'a str,
+    /// What it prints.
     pub printed: &'a str,
 }
 
-/// The row that a text spells.
+/// Returns the row that a text spells, or `None` if it is not a row.
 pub fn row_of(text: &str) -> Option<Row<'_>> {
     let (head, printed) = text.split_once("\n")?;
     let (name, head) = head.split_once(" ")?;
@@ -477,7 +482,7 @@ pub fn row_of(text: &str) -> Option<Row<'_>> {
     })
 }
 
-/// The row of the table with this name.
+/// Returns the row of the table with this name, if there is one.
 pub fn row_named(name: &str) -> Option<Row<'static>> {
     for text in RELAYS.split("====\n") {
         let row = row_of(text)?;

@@ -8,14 +8,14 @@ use Rattle.ipdl_base.specs.declared.line.Line.{Line}
 use Rattle.channel_model.specs.Ends.{Packet}
 use Rattle.channel_model.specs.Events.{Event}
 use Rattle.channel_model.specs.Events as event
-use Rattle.channel_model.specs.Numbers.{other}
+use Rattle.ipdl_base.specs.Sides.{other}
 use Rattle.channel_model.specs.Outputs.{Output, line_at}
 use Rattle.channel_model.specs.Steps.{step}
 use Rattle.script_steps.specs.Choices.{Setting}
 use Rattle.script_steps.proofs.StepLines.{Prints, step-prints}
-use Rattle.relay_runs.specs.HalfRuns.{HalfState, behind, behind_packet, delivered_for}
+use Rattle.relay_runs.specs.HalfRuns.{HalfState, after, after_packet, delivered_for}
 use Rattle.relay_runs.specs.RelaySteps.{LeadsOn, RelayState, RelayStep, half_of, stays, steps, with_half}
-use Rattle.relay_history.specs.OneResult.{IsPrefix}
+use Rattle.law_statements.specs.Prefix.{IsPrefix}
 use Rattle.relay_history.specs.HalfSteps.{HalfLeads, HalfStep, acts, gets, goes, rests}
 use Rattle.relay_runs.specs.RelaySteps as relay
 use Rattle.relay_history.proofs.OneResult.{not-longer}
@@ -25,9 +25,9 @@ use Rattle.relay_runs.proofs.Sides.{half-here, which-side}
 -- each step of a relay is one of the half of its side
 pub half-steps : (setting : Setting) (side : Side) (state next : RelayState) → RelayStep setting side state next → HalfStep setting side (half_of side state) (half_of side next)
 half-steps setting side state _ (relay.acts own output within is_own is) =
-    subst (HalfStep setting side (half_of side state)) (sym (half-here side (behind (half_of side state) output) state)) (acts own output within is_own is)
+    subst (HalfStep setting side (half_of side state)) (sym (half-here side (after (half_of side state) output) state)) (acts own output within is_own is)
 half-steps setting side state _ (relay.gets packet output within none opened next is) =
-    subst (HalfStep setting side (half_of side state)) (sym (half-here side (behind_packet (half_of side state) packet (delivered_for setting.schema (half_of side state).end packet) output) state)) (gets packet output within none opened is)
+    subst (HalfStep setting side (half_of side state)) (sym (half-here side (after_packet (half_of side state) packet (delivered_for setting.schema (half_of side state).end packet) output) state)) (gets packet output within none opened is)
 
 -- and a step of a half is one of the relay, if all that has come after it is a prefix of what the other has sent
 first-after : (came : List Packet) (packet : Packet) (more : List Packet) → first_of (drop (length came) ((came ++ packet ∷ []) ++ more)) ≡ Some packet
@@ -52,13 +52,13 @@ pub half-once : (setting : Setting) (side : Side) (half one two : HalfState) (al
 half-once setting side half _ _ all (acts own output w o is) (acts own' output' w' o' is') prefix prefix' =
     let as_one : own ≡ own' = same_Some own own' (sym o ∙ o') in
     let made : output ≡ output' = same_Some output output' (sym is ∙ ap (λ (x : Event). step setting.schema half.end [] x) as_one ∙ is') in
-    ap (λ (made : Output). behind half made) made
+    ap (λ (made : Output). after half made) made
 half-once setting side half _ _ all (acts own output w o is) (gets packet output' w' o' opened is') prefix prefix' = let k : None ≡ Some own = sym o' ∙ o in cc
 half-once setting side half _ _ all (gets packet output w o opened is) (acts own output' w' o' is') prefix prefix' = let k : None ≡ Some own = sym o ∙ o' in cc
 half-once setting side half _ _ all (gets packet output w o opened is) (gets packet' output' w' o' opened' is') prefix prefix' =
     let as_one : packet ≡ packet' = same-next half.came packet packet' prefix.0 prefix'.0 (sym prefix.1 ∙ prefix'.1) in
     let made : output ≡ output' = same_Some output output' (sym is ∙ ap (λ (p : Packet). step setting.schema half.end (delivered_for setting.schema half.end p ∷ []) event.deliver) as_one ∙ is') in
-    ap (λ (p : Packet). behind_packet half p (delivered_for setting.schema half.end p) output) as_one ∙ ap (λ (made : Output). behind_packet half packet' (delivered_for setting.schema half.end packet') made) made
+    ap (λ (p : Packet). after_packet half p (delivered_for setting.schema half.end p) output) as_one ∙ ap (λ (made : Output). after_packet half packet' (delivered_for setting.schema half.end packet') made) made
 
 -- Several steps of a half
 

@@ -4,11 +4,11 @@ use Rattle.handler_script.specs.ScriptOf.{first_of}
 use Rattle.ipdl_base.specs.declared.kinds.Side.{Side}
 use Rattle.ipdl_base.specs.declared.kinds.Side.TheVariants as sides
 use Rattle.channel_model.specs.Ends.{Packet}
-use Rattle.channel_model.specs.Numbers.{other}
+use Rattle.ipdl_base.specs.Sides.{other}
 use Rattle.script_steps.specs.Choices.{Setting}
-use Rattle.relay_runs.specs.HalfRuns.{HalfState, behind, behind_packet, delivered_for}
+use Rattle.relay_runs.specs.HalfRuns.{HalfState, after, after_packet, delivered_for}
 use Rattle.relay_runs.specs.RelaySteps.{IsRelay, RelayState, RelayStep, acts, gets, half_of, opening_relay, stays, steps}
-use Rattle.relay_history.specs.OneResult.{IsPrefix}
+use Rattle.law_statements.specs.Prefix.{IsPrefix}
 use Rattle.relay_history.proofs.OneHistory.{drop-prefix}
 use Rattle.relay_history.proofs.SameSteps.{Goes, prefix-trans, step-goes}
 use Rattle.relay_runs.proofs.Sides.{by-sides, half-here, twice}
@@ -24,11 +24,11 @@ abbrev pub InOrder : RelayState → Type 0
 InOrder state = (side : Side) → IsPrefix (half_of side state).came (half_of (other side) state).sent
 
 pub came-there : (setting : Setting) (side : Side) (state next : RelayState) → RelayStep setting side state next → IsPrefix (half_of side state).came (half_of (other side) state).sent → IsPrefix (half_of side next).came (half_of (other side) state).sent
-came-there setting side state _ (acts own output within is_own is) h = subst (λ (half : HalfState). IsPrefix half.came (half_of (other side) state).sent) (sym (half-here side (behind (half_of side state) output) state)) h
+came-there setting side state _ (acts own output within is_own is) h = subst (λ (half : HalfState). IsPrefix half.came (half_of (other side) state).sent) (sym (half-here side (after (half_of side state) output) state)) h
 came-there setting side state _ (gets packet output within none opened next is) h =
     let half : HalfState = half_of side state in
     let f = prefix-more half.came h.0 packet (sym (ap (λ (ps : List Packet). first_of (drop (length half.came) ps)) h.1 ∙ ap first_of (drop-prefix half.came h.0)) ∙ next) in
-    subst (λ (half : HalfState). IsPrefix half.came (half_of (other side) state).sent) (sym (half-here side (behind_packet half packet (delivered_for setting.schema half.end packet) output) state)) (f.0, h.1 ∙ f.1)
+    subst (λ (half : HalfState). IsPrefix half.came (half_of (other side) state).sent) (sym (half-here side (after_packet half packet (delivered_for setting.schema half.end packet) output) state)) (f.0, h.1 ∙ f.1)
 
 step-order : (setting : Setting) (side : Side) (state next : RelayState) → RelayStep setting side state next → InOrder state → InOrder next
 step-order setting side state next step h =

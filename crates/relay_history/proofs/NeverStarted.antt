@@ -4,12 +4,12 @@ use Rattle.std.proofs.lemmas.List.{length-append}
 use Rattle.ipdl_base.specs.declared.kinds.Side.{Side}
 use Rattle.ipdl_base.specs.declared.kinds.Side.TheVariants as sides
 use Rattle.channel_model.specs.Ends.{Packet}
-use Rattle.channel_model.specs.Numbers.{other}
+use Rattle.ipdl_base.specs.Sides.{other}
 use Rattle.script_steps.specs.Choices.{Setting}
 use Rattle.relay_runs.specs.HalfRuns.{HalfState}
 use Rattle.relay_runs.specs.RelaySteps.{IsRelay, LeadsOn, RelayState, RelayStep, half_of, opening_relay, stays, steps}
 use Rattle.relay_history.specs.HalfSteps.{HalfLeads, HalfStep, acts, gets, goes, rests}
-use Rattle.relay_history.specs.OneResult.{IsPrefix}
+use Rattle.law_statements.specs.Prefix.{IsPrefix}
 use Rattle.relay_history.specs.Starts.{HasWaitedAt, HaveStartedEachOther}
 use Rattle.relay_history.proofs.HalfSteps.{FirstStep, first-step, half-once, half-steps, half-trans, leads-came, never-back}
 use Rattle.relay_history.proofs.InOrder.{came-there, run-order}

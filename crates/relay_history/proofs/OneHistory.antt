@@ -18,7 +18,7 @@ use Rattle.channel_model.specs.Ends.{End, Packet, World, mark, end_of, link_to}
 use Rattle.channel_model.specs.Events.{Event, Move}
 use Rattle.channel_model.specs.Events as event
 use Rattle.channel_model.specs.Fitting.{FitsPacket}
-use Rattle.channel_model.specs.Numbers.{other}
+use Rattle.ipdl_base.specs.Sides.{other}
 use Rattle.channel_model.specs.Outputs.{Output, is_open, line_at}
 use Rattle.channel_model.specs.Refusals.{DeliveryRefusal, packet_refusal}
 use Rattle.channel_model.specs.Runs.{RunState, after_event, is_delivery, output_of, passed_by, world_after}
@@ -28,7 +28,7 @@ use Rattle.channel_model.specs.Steps.{first_packet, step}
 use Rattle.channel_laws.specs.Laws.{world_of}
 use Rattle.channel_laws.proofs.HonestRuns.{honest_packets_are_accepted}
 use Rattle.channel_laws.proofs.Outlines.{open-is}
-use Rattle.script_steps.specs.Choices.{Choice, Setting, beginning_of, behind_event, chosen, event_by, is_doable, may_deliver, played}
+use Rattle.script_steps.specs.Choices.{Choice, Setting, beginning_of, following_event, chosen, event_by, is_doable, may_deliver, played}
 use Rattle.script_steps.specs.Choices as choices
 use Rattle.script_steps.specs.Laws.{IsRunOf}
 use Rattle.script_steps.specs.NextEvent.{next_event}
@@ -41,7 +41,7 @@ use Rattle.script_runs.specs.Endings as histories
 use Rattle.script_runs.specs.Laws.{HasLimit, IsAtRest}
 use Rattle.script_runs.proofs.Rest.{rest_of_cases_is_still}
 use Rattle.script_runs.proofs.CaseRuns.{IsCase, case-next, case-fits}
-use Rattle.relay_runs.specs.HalfRuns.{HalfRun, HalfState, begins, behind, behind_packet, delivered_for, is_within, own_event}
+use Rattle.relay_runs.specs.HalfRuns.{HalfRun, HalfState, begins, after, after_packet, delivered_for, is_within, own_event}
 use Rattle.relay_runs.specs.HalfRuns as halves
 use Rattle.relay_runs.specs.RelaySteps.{IsRelay, RelayState, RelayStep, acts, gets, half_of, next_packet, opening_relay, stays, steps, with_half}
 use Rattle.relay_runs.specs.Relays.{EndsAs, has_left}
@@ -61,7 +61,7 @@ filter-twice : (test : Line → Bool) (lines : List Line) → filter test (filte
 filter-twice test [] = refl
 filter-twice test (line ∷ rest) = filter-again test (test line) line rest refl (filter-twice test rest)
 
--- so the lines of both sides tell the same progress of a side as its own
+-- so the lines of both sides report the same progress of a side as its own
 side-progress : (side : Side) (lines own : List Line) → side_lines side lines ≡ own → progress_of side lines ≡ progress_of side own
 side-progress side lines own is =
     ap (λ (ls : List Line). after_lines no_progress (map (λ (line : Line). line.what) ls)) (sym (filter-twice (λ (line : Line). same_side line.side side) lines) ∙ ap (side_lines side) is)
@@ -208,8 +208,8 @@ chosen-next : (setting : Setting) (choice : Choice) (history : RunState) (happen
     → chosen setting choice history ≡ Some (record { world = next-world choice.side happened output history.world; lines = history.lines ++ output.lines })
 chosen-next setting choice history happened output within has is =
     let move : Move = record { side = choice.side; event = happened } in
-    ap (λ (b : Bool). if b then option_and_then (λ event. if is_doable setting choice.side history event then Some (behind_event setting choice.side history event) else None) (event_by setting choice history) else None) within
-    ∙ ap (option_and_then (λ event. if is_doable setting choice.side history event then Some (behind_event setting choice.side history event) else None)) has
+    ap (λ (b : Bool). if b then option_and_then (λ event. if is_doable setting choice.side history event then Some (following_event setting choice.side history event) else None) (event_by setting choice history) else None) within
+    ∙ ap (option_and_then (λ event. if is_doable setting choice.side history event then Some (following_event setting choice.side history event) else None)) has
     ∙ ap (λ (found : Option Output). if is_some found then Some (let made : RunState = passed_by found move history.world in record { world = made.world; lines = history.lines ++ made.lines }) else None) is
 
 module _ (setting : Setting) (side : Side) (own facing : HalfState) (history : RunState) (h : IsOneAt side own facing history) where
@@ -264,7 +264,7 @@ module _ (setting : Setting) (side : Side) (state : RelayState) (output : Output
   abbrev half : HalfState
   half = half_of side state
 
-  act-so : (happened : Event) → HasHistory setting state → is_within setting side half ≡ true → own_event setting side half ≡ Some happened → step setting.schema half.end [] happened ≡ Some output → HasHistory setting (with_half side (behind half output) state)
+  act-so : (happened : Event) → HasHistory setting state → is_within setting side half ≡ true → own_event setting side half ≡ Some happened → step setting.schema half.end [] happened ≡ Some output → HasHistory setting (with_half side (after half output) state)
   act-so happened has within is_own is =
       let history : RunState = has.history in
       let choice : Choice = record { side = side; delivers = false } in
@@ -278,7 +278,7 @@ module _ (setting : Setting) (side : Side) (state : RelayState) (output : Output
       record {
         history = record { world = next-world side happened output history.world; lines = history.lines ++ output.lines };
         case = case-next setting choice history _ has.case (chosen-next setting choice history happened output (within-same setting side half (half_of (other side) state) history h ∙ within) own made);
-        one = one-after side (behind half output) state _
+        one = one-after side (after half output) state _
             (one-here setting side half (half_of (other side) state) history happened output half.came half.delivered printed.0 h printed.1 h.unmarked (h.link ∙ ap (λ (ps : List Packet). half.came ++ ps) (sym (own-link happened (link_to side history.world) kind))))
             (one-there setting side half (half_of (other side) state) history happened output half.came half.delivered printed.0 (facing-at side state history has.one));
       }
@@ -304,7 +304,7 @@ accepted-at setting side history packet rest sound case opened link =
     (subst (λ (w : World). (end_of side w).state ≡ Open) (sym is) (open-is (end_of side history.world).state opened))
     (subst (λ (w : World). link_to side w ≡ packet ∷ rest) (sym is) link))
 
--- The next packet of an open side stands first on the link, and it is itself delivered.
+-- The next packet of an open side is first on the link, and it is itself delivered.
 pub record Comes (setting : Setting) (side : Side) (state : RelayState) (history : RunState) (packet : Packet) : Type 0 where
   pub rest : List Packet
   pub link : link_to side history.world ≡ packet ∷ rest
@@ -324,7 +324,7 @@ comes-so setting side state packet has sound opened next =
 module _ (setting : Setting) (side : Side) (state : RelayState) (output : Output) where
   get-so : (packet : Packet) → IsSound setting.schema → HasHistory setting state → is_within setting side (half_of side state) ≡ true → is_open (half_of side state).end.state ≡ true → next_packet side state ≡ Some packet
       → step setting.schema (half_of side state).end (delivered_for setting.schema (half_of side state).end packet ∷ []) event.deliver ≡ Some output
-      → HasHistory setting (with_half side (behind_packet (half_of side state) packet (delivered_for setting.schema (half_of side state).end packet) output) state)
+      → HasHistory setting (with_half side (after_packet (half_of side state) packet (delivered_for setting.schema (half_of side state).end packet) output) state)
   get-so packet sound has within opened next is =
       let own : HalfState = half_of side state in
       let facing : HalfState = half_of (other side) state in
@@ -345,7 +345,7 @@ module _ (setting : Setting) (side : Side) (state : RelayState) (output : Output
       record {
         history = record { world = next-world side event.deliver output history.world; lines = history.lines ++ output.lines };
         case = case-next setting choice history _ has.case (chosen-next setting choice history event.deliver output (within-same setting side own facing history h ∙ within) delivers made);
-        one = one-after side (behind_packet own packet given output) state _
+        one = one-after side (after_packet own packet given output) state _
             (one-here setting side own facing history event.deliver output (own.came ++ packet ∷ []) (own.delivered ++ given ∷ []) printed.0 h printed.1
             (ap (λ (ps : List Packet). ps ++ given ∷ []) h.unmarked ∙ ap (λ (p : Packet). own.came ++ p ∷ []) c.given)
             (h.link ∙ ap (λ (ps : List Packet). own.came ++ ps) c.link ∙ sym (append_assoc own.came (packet ∷ []) c.rest) ∙ ap (λ (ps : List Packet). (own.came ++ packet ∷ []) ++ drop 1 ps) (sym c.link)))
@@ -432,10 +432,10 @@ module _ (setting : Setting) (sound : IsSound setting.schema) (limit : HasLimit 
 
   halves-step : (side : Side) (state next : RelayState) → HasHistory setting state → RunHalves state → RelayStep setting side state next → RunHalves next
   halves-step side state _ has run (acts own output within is_own is) =
-      halves-after side (behind (half_of side state) output) state run (halves.acts (half_of side state) own output (run side) within is_own is)
+      halves-after side (after (half_of side state) output) state run (halves.acts (half_of side state) own output (run side) within is_own is)
   halves-step side state _ has run (gets packet output within rests opened next is) =
       let c : Comes setting side state has.history packet = comes-so setting side state packet has sound opened next in
-      halves-after side (behind_packet (half_of side state) packet (delivered_for setting.schema (half_of side state).end packet) output) state run
+      halves-after side (after_packet (half_of side state) packet (delivered_for setting.schema (half_of side state).end packet) output) state run
       (halves.gets (half_of side state) packet output (run side) within rests opened (subst (AllByRecursion (FitsPacket setting.schema)) c.link (case-fits setting has.history side sound limit has.case).link).0 is)
 
   halves-run : (state : RelayState) → IsRelay setting state → RunHalves state

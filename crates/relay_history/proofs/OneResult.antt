@@ -5,7 +5,7 @@ use Rattle.ipdl_base.specs.declared.kinds.Side.TheVariants as sides
 use Rattle.ipdl_base.specs.declared.line.Line.{Line}
 use Rattle.channel_model.specs.Ends.{Packet}
 use Rattle.channel_model.specs.Events.{Event}
-use Rattle.channel_model.specs.Numbers.{other}
+use Rattle.ipdl_base.specs.Sides.{other}
 use Rattle.channel_model.specs.Outputs.{is_open}
 use Rattle.script_steps.specs.Choices.{Setting}
 use Rattle.script_steps.specs.Turns.{at_limit, at_rest}
@@ -64,7 +64,7 @@ module _ (setting : Setting) (side : Side) (state next two : RelayState) (h : Re
   there-is : half_of (other side) next ≡ half_of (other side) state
   there-is = (step-goes setting side state next h).there
 
-  -- a side that goes on is not where it was
+  -- a side that makes a step is not where it was
   further : LeadsOn setting next j.last → half_of side j.last ≡ half_of side state → ⊥
   further leads same =
       let g : Goes side state next = step-goes setting side state next h in

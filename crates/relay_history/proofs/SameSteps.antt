@@ -8,14 +8,15 @@ use Rattle.ipdl_base.specs.declared.line.Line.{Line}
 use Rattle.channel_model.specs.Ends.{Packet}
 use Rattle.channel_model.specs.Events.{Event}
 use Rattle.channel_model.specs.Events as event
-use Rattle.channel_model.specs.Numbers.{other}
+use Rattle.ipdl_base.specs.Sides.{other}
 use Rattle.channel_model.specs.Outputs.{Output, is_open, line_at}
 use Rattle.channel_model.specs.Steps.{step}
 use Rattle.script_steps.specs.Choices.{Setting}
 use Rattle.script_steps.proofs.StepLines.{Prints, step-prints}
-use Rattle.relay_runs.specs.HalfRuns.{HalfState, behind, behind_packet, delivered_for, is_within, own_event}
+use Rattle.relay_runs.specs.HalfRuns.{HalfState, after, after_packet, delivered_for, is_within, own_event}
 use Rattle.relay_runs.specs.RelaySteps.{LeadsOn, RelayState, RelayStep, acts, gets, half_of, next_packet, stays, steps, with_half}
-use Rattle.relay_history.specs.OneResult.{IsPrefix, IsEarlierHalf}
+use Rattle.law_statements.specs.Prefix.{IsPrefix}
+use Rattle.relay_history.specs.OneResult.{IsEarlierHalf}
 use Rattle.relay_runs.proofs.Sides.{by-sides, half-apart, half-here, half-there, same-relay, twice}
 
 -- At most one step
@@ -24,29 +25,29 @@ steps-once setting side state _ _ (acts own output w o is) (acts own' output' w'
     let half : HalfState = half_of side state in
     let as_one : own ≡ own' = same_Some own own' (sym o ∙ o') in
     let made : output ≡ output' = same_Some output output' (sym is ∙ ap (λ (x : Event). step setting.schema half.end [] x) as_one ∙ is') in
-    ap (λ (made : Output). with_half side (behind half made) state) made
+    ap (λ (made : Output). with_half side (after half made) state) made
 steps-once setting side state _ _ (acts own output w o is) (gets packet output' w' o' opened next is') = let k : None ≡ Some own = sym o' ∙ o in cc
 steps-once setting side state _ _ (gets packet output w o opened next is) (acts own output' w' o' is') = let k : None ≡ Some own = sym o ∙ o' in cc
 steps-once setting side state _ _ (gets packet output w o opened next is) (gets packet' output' w' o' opened' next' is') =
     let half : HalfState = half_of side state in
     let as_one : packet ≡ packet' = same_Some packet packet' (sym next ∙ next') in
     let made : output ≡ output' = same_Some output output' (sym is ∙ ap (λ (p : Packet). step setting.schema half.end (delivered_for setting.schema half.end p ∷ []) event.deliver) as_one ∙ is') in
-    ap (λ (p : Packet). with_half side (behind_packet half p (delivered_for setting.schema half.end p) output) state) as_one
-    ∙ ap (λ (made : Output). with_half side (behind_packet half packet' (delivered_for setting.schema half.end packet') made) state) made
+    ap (λ (p : Packet). with_half side (after_packet half p (delivered_for setting.schema half.end p) output) state) as_one
+    ∙ ap (λ (made : Output). with_half side (after_packet half packet' (delivered_for setting.schema half.end packet') made) state) made
 
 -- A step of a side is one in any state in which its half is the same and the same packet comes next
 module _ (setting : Setting) (side : Side) (state : RelayState) where
   acts-at : (own : Event) (output : Output) (half : HalfState) → half_of side state ≡ half → is_within setting side half ≡ true → own_event setting side half ≡ Some own → step setting.schema half.end [] own ≡ Some output
-      → RelayStep setting side state (with_half side (behind half output) state)
+      → RelayStep setting side state (with_half side (after half output) state)
   acts-at own output half same within is_own is =
-      subst (λ (h : HalfState). RelayStep setting side state (with_half side (behind h output) state)) same
+      subst (λ (h : HalfState). RelayStep setting side state (with_half side (after h output) state)) same
       (acts own output (ap (is_within setting side) same ∙ within) (ap (own_event setting side) same ∙ is_own) (ap (λ (h : HalfState). step setting.schema h.end [] own) same ∙ is))
 
   gets-at : (packet : Packet) (output : Output) (half : HalfState) → half_of side state ≡ half → is_within setting side half ≡ true → own_event setting side half ≡ None → is_open half.end.state ≡ true → next_packet side state ≡ Some packet
       → step setting.schema half.end (delivered_for setting.schema half.end packet ∷ []) event.deliver ≡ Some output
-      → RelayStep setting side state (with_half side (behind_packet half packet (delivered_for setting.schema half.end packet) output) state)
+      → RelayStep setting side state (with_half side (after_packet half packet (delivered_for setting.schema half.end packet) output) state)
   gets-at packet output half same within rests opened next is =
-      subst (λ (h : HalfState). RelayStep setting side state (with_half side (behind_packet h packet (delivered_for setting.schema h.end packet) output) state)) same
+      subst (λ (h : HalfState). RelayStep setting side state (with_half side (after_packet h packet (delivered_for setting.schema h.end packet) output) state)) same
       (gets packet output (ap (is_within setting side) same ∙ within) (ap (own_event setting side) same ∙ rests) (ap (λ (h : HalfState). is_open h.end.state) same ∙ opened) next
       (ap (λ (h : HalfState). step setting.schema h.end (delivered_for setting.schema h.end packet ∷ []) event.deliver) same ∙ is))
 
@@ -56,11 +57,11 @@ StaysNext side state later = (packet : Packet) → next_packet side state ≡ So
 pub steps-there : (setting : Setting) (side : Side) (state next later : RelayState) → RelayStep setting side state next → half_of side later ≡ half_of side state → StaysNext side state later
     → RelayStep setting side later (with_half side (half_of side next) later)
 steps-there setting side state _ later (acts own output within is_own is) same still =
-    subst (λ (h : HalfState). RelayStep setting side later (with_half side h later)) (sym (half-here side (behind (half_of side state) output) state))
+    subst (λ (h : HalfState). RelayStep setting side later (with_half side h later)) (sym (half-here side (after (half_of side state) output) state))
     (acts-at setting side later own output (half_of side state) same within is_own is)
 steps-there setting side state _ later (gets packet output within rests opened next is) same still =
     subst (λ (h : HalfState). RelayStep setting side later (with_half side h later))
-    (sym (half-here side (behind_packet (half_of side state) packet (delivered_for setting.schema (half_of side state).end packet) output) state))
+    (sym (half-here side (after_packet (half_of side state) packet (delivered_for setting.schema (half_of side state).end packet) output) state))
     (gets-at setting side later packet output (half_of side state) same within rests opened (still packet next) is)
 
 -- Prefixes, of lists and of halves
@@ -93,10 +94,10 @@ pub record Goes (side : Side) (state next : RelayState) : Type 0 where
 pub step-goes : (setting : Setting) (side : Side) (state next : RelayState) → RelayStep setting side state next → Goes side state next
 step-goes setting side state _ (acts own output within is_own is) =
     let half : HalfState = half_of side state in
-    let here : half_of side (with_half side (behind half output) state) ≡ behind half output = half-here side (behind half output) state in
+    let here : half_of side (with_half side (after half output) state) ≡ after half output = half-here side (after half output) state in
     let p : Prints half.end own output = step-prints setting.schema half.end [] own output is in
     record {
-      there = half-there side (behind half output) state;
+      there = half-there side (after half output) state;
       prefix = subst (IsEarlierHalf half) (sym here) (record { lines = (output.lines, refl); came = prefix-same half.came; delivered = prefix-same half.delivered; sent = (output.packets, refl) });
       line = line_at half.end.side p.first;
       more = map (line_at half.end.side) p.rest;
@@ -105,10 +106,10 @@ step-goes setting side state _ (acts own output within is_own is) =
 step-goes setting side state _ (gets packet output within rests opened next is) =
     let half : HalfState = half_of side state in
     let given : Packet = delivered_for setting.schema half.end packet in
-    let here : half_of side (with_half side (behind_packet half packet given output) state) ≡ behind_packet half packet given output = half-here side (behind_packet half packet given output) state in
+    let here : half_of side (with_half side (after_packet half packet given output) state) ≡ after_packet half packet given output = half-here side (after_packet half packet given output) state in
     let p : Prints half.end event.deliver output = step-prints setting.schema half.end (given ∷ []) event.deliver output is in
     record {
-      there = half-there side (behind_packet half packet given output) state;
+      there = half-there side (after_packet half packet given output) state;
       prefix = subst (IsEarlierHalf half) (sym here) (record { lines = (output.lines, refl); came = (packet ∷ [], refl); delivered = (given ∷ [], refl); sent = (output.packets, refl) });
       line = line_at half.end.side p.first;
       more = map (line_at half.end.side) p.rest;
@@ -124,7 +125,7 @@ pub leads-earlier : (setting : Setting) (from last : RelayState) → LeadsOn set
 leads-earlier setting from _ stays s = earlier-same (half_of s from)
 leads-earlier setting from _ (steps side state next run h) s = earlier-trans (half_of s from) (half_of s state) (half_of s next) (leads-earlier setting from state run s) (step-earlier setting side state next h s)
 
--- The next packet of a side stays the same while only the other goes on
+-- The next packet of a side stays the same while only the other makes steps
 nothing-first : (packet : Packet) (more : List Packet) (n : ℕ) → first_of (drop n []) ≡ Some packet → first_of (drop n more) ≡ Some packet
 nothing-first packet more zero h = cc
 nothing-first packet more (suc n) h = cc

@@ -5,15 +5,15 @@ use Rattle.std.proofs.lemmas.List.{length-append}
 use Rattle.ipdl_base.specs.declared.kinds.Side.{Side}
 use Rattle.ipdl_base.specs.declared.kinds.Side.TheVariants as sides
 use Rattle.channel_model.specs.Ends.{Packet}
-use Rattle.channel_model.specs.Numbers.{other}
+use Rattle.ipdl_base.specs.Sides.{other}
 use Rattle.channel_model.proofs.Known.{all-append}
 use Rattle.script_steps.specs.Choices.{Setting}
-use Rattle.relay_runs.specs.HalfRuns.{HalfState, behind, behind_packet, delivered_for, opening_half}
+use Rattle.relay_runs.specs.HalfRuns.{HalfState, after, after_packet, delivered_for, opening_half}
 use Rattle.relay_runs.specs.RelaySteps.{IsRelay, RelayState, half_of}
 use Rattle.relay_history.specs.HalfSteps.{HalfLeads, HalfStep, goes, rests}
 use Rattle.relay_history.specs.HalfSteps as halves
 use Rattle.relay_history.specs.Laws.{StampedRelaysRun}
-use Rattle.relay_history.specs.OneResult.{IsPrefix}
+use Rattle.law_statements.specs.Prefix.{IsPrefix}
 use Rattle.relay_history.specs.Stamps.{IsAbove, IsStampedRelay, StampedHalf, acts, begins, gets}
 use Rattle.relay_history.specs.Starts.{HasWaitedAt, HaveStartedEachOther}
 use Rattle.relay_history.proofs.HalfSteps.{FirstStep, first-step, half-once, half-trans, leads-came, never-back, step-new}
@@ -46,9 +46,9 @@ module _ (setting : Setting) (side : Side) where
 
   stamped-leads : (half : HalfState) (sent came : List ℕ) → StampedHalf setting side half sent came → HalfLeads setting side (opening_half setting side) half
   stamped-leads _ _ _ begins = rests
-  stamped-leads _ _ _ (acts half sent came new own output run within is_own is many above) = goes half (behind half output) (stamped-leads half sent came run) (halves.acts own output within is_own is)
+  stamped-leads _ _ _ (acts half sent came new own output run within is_own is many above) = goes half (after half output) (stamped-leads half sent came run) (halves.acts own output within is_own is)
   stamped-leads _ _ _ (gets half sent came new packet stamp output run within none opened is many above) =
-      goes half (behind_packet half packet (delivered_for setting.schema half.end packet) output) (stamped-leads half sent came run) (halves.gets packet output within none opened is)
+      goes half (after_packet half packet (delivered_for setting.schema half.end packet) output) (stamped-leads half sent came run) (halves.gets packet output within none opened is)
 
   -- as many stamps as packets
   both-lengths : (xs ys : List ℕ) (ps qs : List Packet) → length xs ≡ length ps → length ys ≡ length qs → length (xs ++ ys) ≡ length (ps ++ qs)
@@ -185,9 +185,9 @@ module _ (setting : Setting) (side : Side) (before next : HalfState) (packet : P
   since : (half : HalfState) (sent came : List ℕ) → StampedHalf setting side half sent came → HalfLeads setting side next half → IsSince setting side before sent came
   since _ _ _ begins leads = absurd (no-return (half-trans setting side next (opening_half setting side) before leads begun))
   since _ _ _ (acts half sent came new own output run within is_own is many above) leads =
-      by (since half sent came run) (after-or-last half (behind half output) (stamped-leads setting side half sent came run) (halves.acts own output within is_own is) leads)
+      by (since half sent came run) (after-or-last half (after half output) (stamped-leads setting side half sent came run) (halves.acts own output within is_own is) leads)
     where
-      by : (HalfLeads setting side next half → IsSince setting side before sent came) → HalfLeads setting side next half ⊎ ((before ≡ half) × (next ≡ behind half output)) → IsSince setting side before (sent ++ new) came
+      by : (HalfLeads setting side next half → IsSince setting side before sent came) → HalfLeads setting side next half ⊎ ((before ≡ half) × (next ≡ after half output)) → IsSince setting side before (sent ++ new) came
       by h (inl k) = let s : IsSince setting side before sent came = h k in since-more sent came new came s.more s s.came_is above
       by h (inr same) =
           let longer : length next.came ≡ length before.came + 1 = ap length comes ∙ one-longer before.came packet in
@@ -196,9 +196,9 @@ module _ (setting : Setting) (side : Side) (before next : HalfState) (packet : P
           absurd (omega (arith, longer, equal, equal_too))
   since _ _ _ (gets half sent came new p stamp output run within none opened is many above) leads =
       by (since half sent came run)
-      (after-or-last half (behind_packet half p (delivered_for setting.schema half.end p) output) (stamped-leads setting side half sent came run) (halves.gets p output within none opened is) leads)
+      (after-or-last half (after_packet half p (delivered_for setting.schema half.end p) output) (stamped-leads setting side half sent came run) (halves.gets p output within none opened is) leads)
     where
-      by : (HalfLeads setting side next half → IsSince setting side before sent came) → HalfLeads setting side next half ⊎ ((before ≡ half) × (next ≡ behind_packet half p (delivered_for setting.schema half.end p) output))
+      by : (HalfLeads setting side next half → IsSince setting side before sent came) → HalfLeads setting side next half ⊎ ((before ≡ half) × (next ≡ after_packet half p (delivered_for setting.schema half.end p) output))
           → IsSince setting side before (sent ++ new) (came ++ stamp ∷ [])
       by h (inl k) =
           let s : IsSince setting side before sent came = h k in

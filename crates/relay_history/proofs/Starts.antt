@@ -3,15 +3,15 @@ use Rattle.std.proofs.Common.{◌≡◌, ◌⊎◌, inl, inr, ℕ, zero, suc, �
 use Rattle.ipdl_base.specs.declared.kinds.Side.{Side}
 use Rattle.ipdl_base.specs.declared.kinds.Side.TheVariants as sides
 use Rattle.channel_model.specs.Ends.{Packet}
-use Rattle.channel_model.specs.Numbers.{other}
+use Rattle.ipdl_base.specs.Sides.{other}
 use Rattle.script_steps.specs.Choices.{Setting}
-use Rattle.relay_runs.specs.HalfRuns.{HalfRun, HalfState, behind_packet, delivered_for, opening_half}
+use Rattle.relay_runs.specs.HalfRuns.{HalfRun, HalfState, after_packet, delivered_for, opening_half}
 use Rattle.relay_runs.specs.HalfRuns as half_run
 use Rattle.relay_runs.specs.RelaySteps.{IsRelay, RelayState, RelayStep, half_of, opening_relay, stays, steps, with_half}
 use Rattle.relay_runs.specs.Relays.{ComeInOrder, IsHalfRunPair}
 use Rattle.relay_history.specs.HalfSteps.{HalfLeads, HalfStep, acts, gets, goes, rests}
 use Rattle.relay_history.specs.Laws.{RelaysRunOrStart}
-use Rattle.relay_history.specs.OneResult.{IsPrefix}
+use Rattle.law_statements.specs.Prefix.{IsPrefix}
 use Rattle.relay_history.specs.Starts.{HasWaitedAt, HaveStartedEachOther}
 use Rattle.relay_history.proofs.HalfSteps.{half-leads, half-trans, leads-came, side-steps}
 use Rattle.relay_history.proofs.InOrder.{run-order}
@@ -62,7 +62,7 @@ prefixes-compare (x ∷ xs) (y ∷ ys) more rest h = by (prefixes-compare xs ys 
     by (inr few) = inr (omega (arith, few))
 
 module _ (setting : Setting) (target : RelayState) (comes : (side : Side) → ComeInOrder side target) where
-  -- A side has so many steps left toward its target.
+  -- A side has this number of steps left toward its target.
   record Still (side : Side) (state : RelayState) (many : ℕ) : Type 0 where
     half : HalfState
     same : half_of side state ≡ half
@@ -98,7 +98,7 @@ module _ (setting : Setting) (target : RelayState) (comes : (side : Side) → Co
       let equal : length (half_of side state).came ≡ length half.came = ap (λ (h : HalfState). length h.came) same in
       absurd (omega (arith, order, equal, few))
   wait-so side state half _ same run (gets packet output within none opened is) leads few =
-      let next : HalfState = behind_packet half packet (delivered_for setting.schema half.end packet) output in
+      let next : HalfState = after_packet half packet (delivered_for setting.schema half.end packet) output in
       let longer : length (half.came ++ packet ∷ []) ≡ length half.came + 1 = one-longer half.came packet in
       let equal : length (half_of side state).came ≡ length half.came = ap (λ (h : HalfState). length h.came) same in
       record {

@@ -5,7 +5,7 @@ use Rattle.ipdl_base.specs.declared.kinds.Side.TheVariants as sides
 use Rattle.ipdl_base.specs.declared.line.Line.{Line}
 use Rattle.ipdl_base.specs.Lines.{same_side}
 use Rattle.channel_model.specs.Ends.{end_of, link_to}
-use Rattle.channel_model.specs.Numbers.{other}
+use Rattle.ipdl_base.specs.Sides.{other}
 use Rattle.script_steps.specs.Choices.{IsCaseHistory, Setting}
 use Rattle.script_runs.specs.Endings as histories
 use Rattle.script_steps.specs.Turns.{RunEnding}
@@ -19,7 +19,7 @@ side_lines side lines = filter (λ line. same_side line.side side) lines
 -- Some history of the script has as lines of each side those of its half, and both ends are there as they are in the
 -- halves. What a side has sent is what came to the other and then what is on the link toward it. Each packet that came was
 -- delivered as it is, and never a mark in its place. The relay ends as a run with this history does: it is finished exactly
--- where nothing is left to do, and spent at a side exactly where that has something to do but as many events as the limit.
+-- where nothing is left to do, and spent at a side exactly where that has something to do but has reached the limit.
 pub record IsOneHistory (setting : Setting) (state : RelayState) : Type 0 where
   pub lines : List Line
   pub history : IsCaseHistory setting lines

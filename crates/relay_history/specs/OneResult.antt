@@ -3,13 +3,10 @@ use Rattle.std.specs.Prelude.{◌≡◌, ◌⊎◌, List, ◌++◌}
 use Rattle.ipdl_base.specs.declared.kinds.Side.{Side}
 use Rattle.script_steps.specs.Choices.{Setting}
 use Rattle.script_steps.specs.Turns.{at_limit, at_rest}
+use Rattle.law_statements.specs.Prefix.{IsPrefix}
 use Rattle.relay_runs.specs.HalfRuns.{HalfState}
 use Rattle.relay_runs.specs.RelaySteps.{RelayState, half_of}
 use Rattle.relay_runs.specs.Relays.{EndsAs}
-
--- a list begins with another
-abbrev pub IsPrefix : {A : Type 0} → List A → List A → Type 0
-IsPrefix {A} prefix whole = (more : List A) × (whole ≡ prefix ++ more)
 
 -- A half comes before another on one way: its lines, and the packets that came, were delivered and were sent, are prefixes.
 pub record IsEarlierHalf (earlier later : HalfState) : Type 0 where

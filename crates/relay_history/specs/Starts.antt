@@ -2,7 +2,7 @@
 use Rattle.std.specs.Prelude.{◌≡◌, ◌≤◌, [], ◌∷◌, ◌++◌, length}
 use Rattle.ipdl_base.specs.declared.kinds.Side.{Side}
 use Rattle.channel_model.specs.Ends.{Packet}
-use Rattle.channel_model.specs.Numbers.{other}
+use Rattle.ipdl_base.specs.Sides.{other}
 use Rattle.script_steps.specs.Choices.{Setting}
 use Rattle.relay_runs.specs.HalfRuns.{HalfState, opening_half}
 use Rattle.relay_runs.specs.RelaySteps.{RelayState, half_of}

@@ -2,8 +2,8 @@
 ghost use Rattle.relay_history.specs.SidesAlone.{SidesObeyAlone, SidesRunAlone};
 ghost use Rattle.relay_history.specs.Laws.{FinishedRelaysWaitForNothing, RelaysAreHistories, RelaysComeInOrder, RelaysHaveOneResult, RelaysRunOrStart, StampedRelaysRun, TurnsHaveOneHistory};
 
-/// The law of histories: a relay is one history of its script. The halves are the lines of that by side,
-/// and each packet that came was delivered, with no mark in its place.
+/// The law of histories: a relay is one history of its script. Its halves are the lines of that history by
+/// side, and each packet that came was delivered, with no mark in its place.
 pub fn relays_are_histories()
     ensures { RelaysAreHistories }
 {}
@@ -14,13 +14,13 @@ pub fn relays_come_in_order()
     ensures { RelaysComeInOrder }
 {}
 
-/// The law of results: two relays of one setting go the same way at each side, one perhaps further, and
-/// all that finish are one.
+/// The law of results: two relays of one setting agree at each side, one perhaps further, and all that
+/// finish are the same.
 pub fn relays_have_one_result()
     ensures { RelaysHaveOneResult }
 {}
 
-/// The law of histories, for turns: what they give are by side the lines of one history.
+/// The law of histories, for turns: by side they give the lines of one history.
 pub fn turns_have_one_history()
     ensures { TurnsHaveOneHistory }
 {}

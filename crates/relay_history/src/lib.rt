@@ -1,5 +1,5 @@
-//! What both ends do apart is one history of the channel, and comes to one result, in whatever order
-//! they go on (docs/relay.md). No function that runs.
+//! A relay is one history of the channel and has one result, in whatever order its sides make steps
+//! (docs/relay.md). This crate has definitions and laws, and no function that runs.
 #![tactic(auto)]
 
 mod laws;

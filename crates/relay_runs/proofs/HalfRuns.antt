@@ -1,5 +1,5 @@
--- In a half run a mark that stands for a packet is the last that is delivered.
-use Rattle.std.proofs.Common.{◌≡◌, ◌⊎◌, inl, inr, Bool, true, false, List, [], ◌∷◌, ◌++◌, Option, Some, None, refl, sym, ap, subst, ◌∙◌}
+-- What is delivered of a packet, how a half run continues, and why a mark in place of a packet is delivered last.
+use Rattle.std.proofs.Common.{◌≡◌, ◌⊎◌, inl, inr, Bool, true, false, List, [], ◌∷◌, ◌++◌, Option, Some, None, is_some, refl, sym, ap, subst, ◌∙◌}
 use Rattle.std.specs.Option.{option_map_or}
 use Rattle.std.proofs.lemmas.Option.{same_Some}
 use Rattle.ipdl_base.specs.declared.kinds.Side.{Side}
@@ -10,25 +10,31 @@ use Rattle.channel_model.specs.Deliveries.{deliver}
 use Rattle.channel_model.specs.Ends.{End, Packet, mark}
 use Rattle.channel_model.specs.Events.{Answering, Event, handled, kept}
 use Rattle.channel_model.specs.Events as event
-use Rattle.channel_model.specs.Outputs.{Output, beginning, is_open}
+use Rattle.channel_model.specs.Fitting.{FitsPacket}
+use Rattle.channel_model.specs.Outputs.{Change, Output, beginning, is_open}
 use Rattle.channel_model.specs.Parts as parts
-use Rattle.channel_model.specs.Parts.{DeliveryPart, FirstPart, LaterPart, end_behind}
+use Rattle.channel_model.specs.Parts.{DeliveryPart, FirstPart, LaterPart, end_after}
 use Rattle.channel_model.specs.Phases.{Phase}
 use Rattle.channel_model.specs.Refusals.{DeliveryRefusal, packet_refusal}
 use Rattle.channel_model.specs.Steps.{provided, step}
 use Rattle.channel_model.proofs.StepParts.{parts-keep}
 use Rattle.script_steps.specs.Choices.{Setting}
-use Rattle.relay_runs.specs.HalfRuns.{HalfRun, HalfState, StandsFor, acts, begins, behind_packet, delivered_for, gets}
+use Rattle.relay_runs.specs.HalfRuns.{HalfRun, HalfState, StandsFor, acts, after, after_next, after_own, after_packet, begins, delivered_for, gets, is_within, own_event}
 use Rattle.relay_runs.specs.Laws.{MarksComeLast}
+
+-- a step that an end provides for is possible
+pub provided-some : (b : Bool) (change : Change) (e : End) → b ≡ true → is_some (provided b change e) ≡ true
+provided-some true change e h = refl
+provided-some false change e h = cc
 
 -- An end that is not open stays so
 
 abbrev IsEnded : End → Type 0
 IsEnded e = is_open e.state ≡ false
 
-behind-ended : (b : Bool) (e : End) → IsEnded e → IsEnded (end_behind b e)
-behind-ended true e h = h
-behind-ended false e h = h
+following-ended : (b : Bool) (e : End) → IsEnded e → IsEnded (end_after b e)
+following-ended true e h = h
+following-ended false e h = h
 
 used-ended : (by : Answering) (e : End) → IsEnded e → IsEnded (record (answers.without_resolver by e) { outbox = [] })
 used-ended (handled seq) e h = h
@@ -44,12 +50,12 @@ first-ended (parts.closes opened none) h = refl
 first-ended (parts.dies opened) h = refl
 first-ended (parts.dies_silent ended alive) h = refl
 first-ended (parts.takes m sync level row vs next body found stays) h = h
-first-ended (parts.drops m sync level row vs id replies next body found gone is) h = behind-ended replies _ h
+first-ended (parts.drops m sync level row vs id replies next body found gone is) h = following-ended replies _ h
 first-ended (parts.drops_unknown m sync level vs next body none) h = h
 first-ended (parts.takes_reply m sync level a next body late) h = h
 first-ended (parts.settles m sync level row a next body found is) h = h
 first-ended (parts.shuts last next is) h = refl
-first-ended (parts.returns entry row vs told lost returns t l) h = behind-ended lost _ (behind-ended told _ h)
+first-ended (parts.returns entry row vs told lost returns t l) h = following-ended lost _ (following-ended told _ h)
 first-ended (parts.resumes wait row on_top found) h = h
 
 later-ended : {p q : Phase} {e f : End} {ws : List What} {ps : List Packet} → LaterPart p e ws ps f q → IsEnded e → IsEnded f
@@ -64,7 +70,7 @@ later-ended (parts.falls why due) h = h
 
 delivery-ended : {schema : Schema} {packet : Packet} {p : Phase} {e f : End} {ws : List What} {ps : List Packet} → DeliveryPart schema packet e ws ps f p → IsEnded e → IsEnded f
 delivery-ended (parts.gets_request m row vs body found none) h = h
-delivery-ended (parts.replaces m row vs old sync level replies body found rep k) h = behind-ended replies _ h
+delivery-ended (parts.replaces m row vs old sync level replies body found rep k) h = following-ended replies _ h
 delivery-ended (parts.gets_answer m row a body found sync) h = h
 delivery-ended (parts.gets_reply m row a body found async) h = h
 delivery-ended (parts.drains packet last) h = refl
@@ -73,7 +79,7 @@ delivery-ended (parts.passes_by m ordinary none) h = h
 stays-ended : (schema : Schema) (e : End) (link : List Packet) (happened : Event) (output : Output) → step schema e link happened ≡ Some output → IsEnded e → IsEnded output.end
 stays-ended schema e link happened output is h = parts-keep schema IsEnded (record { first = first-ended; later = later-ended; delivery = delivery-ended }) e link happened output is h
 
--- and so it is behind a mark
+-- and so it is after a mark
 mark-ends : (schema : Schema) (e : End) (output : Output) → step schema e (mark ∷ []) event.deliver ≡ Some output → IsEnded output.end
 mark-ends schema e output is = by (is_open e.state) is
   where
@@ -113,7 +119,7 @@ told setting side _ (acts state own output run within is_own is) = by (told sett
     by (inr cut) = inr (record { before = cut.before; packet = cut.packet; came = cut.came; delivered = cut.delivered; ended = stays-ended setting.schema state.end [] own output is cut.ended })
 told setting side _ (gets state packet output run within rests opened fits is) = by (told setting side state run)
   where
-    by : IsTold state → IsTold (behind_packet state packet (delivered_for setting.schema state.end packet) output)
+    by : IsTold state → IsTold (after_packet state packet (delivered_for setting.schema state.end packet) output)
     by (inl same) = one-more setting.schema state packet output (packet_refusal setting.schema state.end packet) same is
     by (inr cut) = not-both (is_open state.end.state) opened cut.ended
 
@@ -123,3 +129,52 @@ marks_come_last setting side state run = by (told setting side state run)
     by : IsTold state → StandsFor state.came state.delivered
     by (inl same) = inl same
     by (inr cut) = inr (cut.before, cut.packet, cut.came, cut.delivered)
+
+-- What is delivered of a packet fits the schema, and the end does not refuse it
+
+given-taken : (schema : Schema) (e : End) (packet : Packet) (refusal : Option DeliveryRefusal) → packet_refusal schema e packet ≡ refusal → FitsPacket schema packet
+    → FitsPacket schema (option_map_or (λ r. mark) refusal packet) × (packet_refusal schema e (option_map_or (λ r. mark) refusal packet) ≡ None)
+given-taken schema e packet None is fits = (fits, is)
+given-taken schema e packet (Some r) is fits = (tt, refl)
+
+pub delivered-taken : (schema : Schema) (e : End) (packet : Packet) → FitsPacket schema packet → FitsPacket schema (delivered_for schema e packet) × (packet_refusal schema e (delivered_for schema e packet) ≡ None)
+delivered-taken schema e packet fits = given-taken schema e packet (packet_refusal schema e packet) refl fits
+
+-- the packet itself where the end does not refuse it, and the mark where it does
+pub delivered-itself : (schema : Schema) (e : End) (packet : Packet) → packet_refusal schema e packet ≡ None → delivered_for schema e packet ≡ packet
+delivered-itself schema e packet is = ap (λ (refusal : Option DeliveryRefusal). option_map_or (λ r. mark) refusal packet) is
+
+pub delivered-mark : (schema : Schema) (e : End) (packet : Packet) (refusal : DeliveryRefusal) → packet_refusal schema e packet ≡ Some refusal → delivered_for schema e packet ≡ mark
+delivered-mark schema e packet refusal is = ap (λ (found : Option DeliveryRefusal). option_map_or (λ r. mark) found packet) is
+
+-- A half run continues by an own step, and by a packet that comes
+
+module _ (setting : Setting) (side : Side) (half : HalfState) (run : HalfRun setting side half) (within : is_within setting side half ≡ true) where
+  pub own-runs : (own : Event) → own_event setting side half ≡ Some own → HalfRun setting side (after_own setting half own)
+  own-runs own is_own = by (step setting.schema half.end [] own) refl
+    where
+      by : (made : Option Output) → step setting.schema half.end [] own ≡ made → HalfRun setting side (option_map_or (after half) made half)
+      by None is = run
+      by (Some output) is = acts half own output run within is_own is
+
+  module _ (packet : Packet) (rests : own_event setting side half ≡ None) (opened : is_open half.end.state ≡ true) (fits : FitsPacket setting.schema packet) where
+    abbrev given : Packet
+    given = delivered_for setting.schema half.end packet
+
+    made-runs : (made : Option Output) → step setting.schema half.end (given ∷ []) event.deliver ≡ made → HalfRun setting side (option_map_or (after_packet half packet given) made half)
+    made-runs None is = run
+    made-runs (Some output) is = gets half packet output run within rests opened fits is
+
+    pub next-runs : HalfRun setting side (after_next setting half packet)
+    next-runs = made-runs (step setting.schema half.end (given ∷ []) event.deliver) refl
+
+-- an open end has the next packet delivered
+
+made-delivers : (half : HalfState) (packet given : Packet) (made : Option Output) → is_some made ≡ true → (option_map_or (after_packet half packet given) made half).delivered ≡ half.delivered ++ given ∷ []
+made-delivers half packet given None h = cc
+made-delivers half packet given (Some output) h = refl
+
+pub next-delivers : (setting : Setting) (half : HalfState) (packet : Packet) → is_open half.end.state ≡ true → (after_next setting half packet).delivered ≡ half.delivered ++ delivered_for setting.schema half.end packet ∷ []
+next-delivers setting half packet opened =
+    let given : Packet = delivered_for setting.schema half.end packet in
+    made-delivers half packet given (step setting.schema half.end (given ∷ []) event.deliver) (provided-some (is_open half.end.state) (deliver setting.schema given) half.end opened)

@@ -4,7 +4,7 @@ use Rattle.ipdl_base.specs.declared.kinds.Side.{Side}
 use Rattle.ipdl_base.specs.declared.kinds.Side.TheVariants as sides
 use Rattle.channel_model.specs.Ends.{Packet}
 use Rattle.channel_model.specs.Events.{Event}
-use Rattle.channel_model.specs.Numbers.{other}
+use Rattle.ipdl_base.specs.Sides.{other}
 use Rattle.channel_model.specs.Outputs.{is_open}
 use Rattle.script_steps.specs.Choices.{Setting}
 use Rattle.script_steps.specs.Turns.{RunEnding, at_limit, at_rest}
@@ -64,7 +64,7 @@ both-idle : (setting : Setting) (side : Side) (state : RelayState) → relay_tur
 both-idle setting sides.Parent state is facing = (idles-so setting sides.Parent state is, idles-so setting sides.Child state facing)
 both-idle setting sides.Child state is facing = (idles-so setting sides.Parent state facing, idles-so setting sides.Child state is)
 
--- where the other side has idled, if one turn or none may still do so, and this side too, if none may
+-- where the other side has idled, if at most one turn may still do so, and this side too, if no turn may
 ends : (setting : Setting) (side : Side) (idle : ℕ) (state last : RelayState) (ending : RunEnding) → (idle ≤ 1 → relay_turn setting (other side) state ≡ idles) → (idle ≤ 0 → relay_turn setting side state ≡ idles)
     → RelayTurns setting side idle state last ending → EndsAs setting last ending
 ends setting _ _ _ _ _ one none (rests side state) = both-idle setting side state (none (omega arith)) (one (omega arith))

@@ -6,14 +6,14 @@ use Rattle.ipdl_base.specs.declared.kinds.Side.TheVariants as sides
 use Rattle.channel_model.specs.Ends.{Packet}
 use Rattle.channel_model.specs.Events.{Event}
 use Rattle.channel_model.specs.Events as event
-use Rattle.channel_model.specs.Numbers.{other}
+use Rattle.ipdl_base.specs.Sides.{other}
 use Rattle.channel_model.specs.Outputs.{Output, is_open}
 use Rattle.channel_model.specs.Steps.{step}
 use Rattle.script_steps.specs.Choices.{Setting}
-use Rattle.relay_runs.specs.HalfRuns.{HalfState, behind, behind_packet, delivered_for, is_within, own_event}
+use Rattle.relay_runs.specs.HalfRuns.{HalfState, after, after_packet, delivered_for, after_next, after_own, is_within, own_event}
 use Rattle.relay_runs.specs.Laws.{TurnsAreRelays}
 use Rattle.relay_runs.specs.RelaySteps.{LeadsOn, RelayState, RelayStep, acts, gets, half_of, next_packet, stays, steps, with_half}
-use Rattle.relay_runs.specs.Relays.{behind_next, behind_own, exceeds, idles, leads, packet_turn, relay_turn, turn_by}
+use Rattle.relay_runs.specs.Relays.{exceeds, idles, leads, packet_turn, relay_turn, turn_by}
 use Rattle.relay_runs.specs.Relays as turns
 
 -- a state whose half is put back is the same
@@ -43,21 +43,21 @@ module _ (setting : Setting) (side : Side) (state next : RelayState) where
   no-step is = subst (LeadsOn setting state) (sym (put-back side state) ∙ is) stays
 
   own-steps : (own : Event) (made : Option Output) → own_event setting side half ≡ Some own → step setting.schema half.end [] own ≡ made → is_within setting side half ≡ true
-      → with_half side (option_map_or (behind half) made half) state ≡ next → LeadsOn setting state next
+      → with_half side (option_map_or (after half) made half) state ≡ next → LeadsOn setting state next
   own-steps own None is_own is within h = no-step h
-  own-steps own (Some output) is_own is within h = one-step (behind half output) (acts own output within is_own is) h
+  own-steps own (Some output) is_own is within h = one-step (after half output) (acts own output within is_own is) h
 
   packet-steps : (packet : Packet) (made : Option Output) → own_event setting side half ≡ None → is_open half.end.state ≡ true → next_packet side state ≡ Some packet
       → step setting.schema half.end (delivered_for setting.schema half.end packet ∷ []) event.deliver ≡ made → is_within setting side half ≡ true
-      → with_half side (option_map_or (behind_packet half packet (delivered_for setting.schema half.end packet)) made half) state ≡ next → LeadsOn setting state next
+      → with_half side (option_map_or (after_packet half packet (delivered_for setting.schema half.end packet)) made half) state ≡ next → LeadsOn setting state next
   packet-steps packet None none opened comes is within h = no-step h
-  packet-steps packet (Some output) none opened comes is within h = one-step (behind_packet half packet (delivered_for setting.schema half.end packet) output) (gets packet output within none opened comes is) h
+  packet-steps packet (Some output) none opened comes is within h = one-step (after_packet half packet (delivered_for setting.schema half.end packet) output) (gets packet output within none opened comes is) h
 
   -- whatever the side finds to do
   next-steps : (found : Option Packet) → next_packet side state ≡ found → own_event setting side half ≡ None → is_open half.end.state ≡ true → packet_turn setting side state found ≡ leads next → LeadsOn setting state next
   next-steps None comes none opened h = cc
   next-steps (Some packet) comes none opened h =
-      let w = leads-within (is_within setting side half) (behind_next setting half packet) refl h in
+      let w = leads-within (is_within setting side half) (after_next setting half packet) refl h in
       packet-steps packet (step setting.schema half.end (delivered_for setting.schema half.end packet ∷ []) event.deliver) none opened comes refl w.0 w.1
 
   open-steps : (b : Bool) → is_open half.end.state ≡ b → own_event setting side half ≡ None → (if b then packet_turn setting side state (next_packet side state) else idles) ≡ leads next → LeadsOn setting state next
@@ -66,7 +66,7 @@ module _ (setting : Setting) (side : Side) (state next : RelayState) where
 
   found-steps : (found : Option Event) → own_event setting side half ≡ found → turn_by setting side state found ≡ leads next → LeadsOn setting state next
   found-steps (Some own) is h =
-      let w = leads-within (is_within setting side half) (behind_own setting half own) refl h in
+      let w = leads-within (is_within setting side half) (after_own setting half own) refl h in
       own-steps own (step setting.schema half.end [] own) is refl w.0 w.1
   found-steps None is h = open-steps (is_open half.end.state) refl is h
 

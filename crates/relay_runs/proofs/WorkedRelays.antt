@@ -102,7 +102,7 @@ spent_at_once : shown (record two_tells { limit = 1 }) ≡ Some (record {
 })
 spent_at_once = refl
 
--- the child dies behind its first event: the second tell never comes to it, and the parent hears of the death
+-- the child dies after its first event: the second tell never comes to it, and the parent hears of the death
 child_dies : shown (record two_tells { stop = Some (record { side = side.Child; after = 1 }) }) ≡ Some (record {
   parent = p (what.Send (pos 1) (pos 2147483647) 4 (number (pos 5))) ∷ p (what.Send (pos 2) (pos 2147483647) 4 (number (pos 6))) ∷ p what.DeliverBroken ∷ p what.ShutAbnormal ∷ p (what.Fall (pos 2147483647) destroy.AbnormalShutdown) ∷ [];
   child = c (what.DeliverRequest (pos 1)) ∷ c what.Die ∷ [];

@@ -28,7 +28,7 @@ use Rattle.channel_model.specs.Outputs.{Output, beginning}
 use Rattle.channel_model.specs.Steps.{step}
 use Rattle.script_steps.specs.Choices.{Setting}
 use Rattle.script_steps.specs.Turns.{at_rest}
-use Rattle.relay_runs.specs.HalfRuns.{HalfState, begins, behind, behind_packet, delivered_for, opening_half}
+use Rattle.relay_runs.specs.HalfRuns.{HalfState, begins, after, after_packet, delivered_for, opening_half}
 use Rattle.relay_runs.specs.HalfRuns as halves
 use Rattle.relay_runs.specs.RelaySteps.{IsRelay, RelayState, RelayStep, acts, gets, opening_relay, stays, steps}
 use Rattle.relay_runs.specs.Relays.{EndsAs, IsHalfRunPair}
@@ -67,12 +67,12 @@ abbrev given : End → Option Output → Output
 given e None = beginning e
 given e (Some output) = output
 
-abbrev after_own : HalfState → Event → HalfState
-after_own half own = behind half (given half.end (step calls_back.schema half.end [] own))
+abbrev acted : HalfState → Event → HalfState
+acted half own = after half (given half.end (step calls_back.schema half.end [] own))
 
 abbrev after_call : HalfState → Packet → HalfState
 after_call half packet =
-    behind_packet half packet (delivered_for calls_back.schema half.end packet) (given half.end (step calls_back.schema half.end (delivered_for calls_back.schema half.end packet ∷ []) event.deliver))
+    after_packet half packet (delivered_for calls_back.schema half.end packet) (given half.end (step calls_back.schema half.end (delivered_for calls_back.schema half.end packet ∷ []) event.deliver))
 
 abbrev call_of : ℕ → Event
 call_of number = event.send (pos 2147483647) number Nothing None
@@ -80,8 +80,8 @@ call_of number = event.send (pos 2147483647) number Nothing None
 -- each has got the call of the other, has taken it, and calls
 abbrev begun : RelayState
 begun = record {
-  parent = after_own (after_own (after_call (opening_half calls_back sides.Parent) to_parent) event.take) (call_of 2);
-  child = after_own (after_own (after_call (opening_half calls_back sides.Child) to_child) event.take) (call_of 0);
+  parent = acted (acted (after_call (opening_half calls_back sides.Parent) to_parent) event.take) (call_of 2);
+  child = acted (acted (after_call (opening_half calls_back sides.Child) to_child) event.take) (call_of 0);
 }
 
 abbrev p : What → Line

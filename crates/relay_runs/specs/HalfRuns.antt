@@ -1,4 +1,4 @@
--- The run of one end by itself: what it does is what its side of a script says, whatever packets come to it.
+-- A half: one end by itself. Its own steps are those of its side of a script. Packets come to it, whoever sends them.
 use Rattle.std.specs.Prelude.{◌≡◌, ◌⊎◌, nat_lt, Bool, true, List, [], ◌∷◌, ◌++◌, Option, Some, None}
 use Rattle.std.specs.Option.{option_map_or}
 use Rattle.ipdl_base.specs.declared.kinds.Side.{Side}
@@ -40,23 +40,32 @@ is_within setting side state = nat_lt (progress_of side state.lines).events sett
 abbrev pub delivered_for : Schema → End → Packet → Packet
 delivered_for schema e packet = option_map_or (λ refusal. mark) (packet_refusal schema e packet) packet
 
--- the state behind what a step has made
-abbrev pub behind : HalfState → Output → HalfState
-behind state output = record state { end = output.end; lines = state.lines ++ output.lines; sent = state.sent ++ output.packets }
+-- the state after a step that has made this
+abbrev pub after : HalfState → Output → HalfState
+after state output = record state { end = output.end; lines = state.lines ++ output.lines; sent = state.sent ++ output.packets }
 
--- the state behind a packet that came, as this was delivered in its place
-abbrev pub behind_packet : HalfState → Packet → Packet → Output → HalfState
-behind_packet state packet given output = record (behind state output) { came = state.came ++ packet ∷ []; delivered = state.delivered ++ given ∷ [] }
+-- the state after a packet that came, with this one delivered in its place
+abbrev pub after_packet : HalfState → Packet → Packet → Output → HalfState
+after_packet state packet given output = record (after state output) { came = state.came ++ packet ∷ []; delivered = state.delivered ++ given ∷ [] }
 
--- An end has come so far by itself: it has done its own steps by the script, and had packets delivered where it had none
--- of these and was open, with fewer events than the limit before each.
+-- the half after an own step, and after a packet that comes; a step that is not possible changes nothing
+abbrev pub after_own : Setting → HalfState → Event → HalfState
+after_own setting half own = option_map_or (after half) (step setting.schema half.end [] own) half
+
+abbrev pub after_next : Setting → HalfState → Packet → HalfState
+after_next setting half packet =
+    let given : Packet = delivered_for setting.schema half.end packet in
+    option_map_or (after_packet half packet given) (step setting.schema half.end (given ∷ []) event.deliver) half
+
+-- An end has come this far by itself: it has made its own steps by the script, and got packets where it had no own step and
+-- was open, with fewer events than the limit before each.
 pub data HalfRun (setting : Setting) (side : Side) : HalfState → Type 0 where
   begins : HalfRun setting side (opening_half setting side)
   acts : (state : HalfState) (own : Event) (output : Output) → HalfRun setting side state → is_within setting side state ≡ true → own_event setting side state ≡ Some own
-      → step setting.schema state.end [] own ≡ Some output → HalfRun setting side (behind state output)
+      → step setting.schema state.end [] own ≡ Some output → HalfRun setting side (after state output)
   gets : (state : HalfState) (packet : Packet) (output : Output) → HalfRun setting side state → is_within setting side state ≡ true → own_event setting side state ≡ None
       → is_open state.end.state ≡ true → FitsPacket setting.schema packet → step setting.schema state.end (delivered_for setting.schema state.end packet ∷ []) event.deliver ≡ Some output
-      → HalfRun setting side (behind_packet state packet (delivered_for setting.schema state.end packet) output)
+      → HalfRun setting side (after_packet state packet (delivered_for setting.schema state.end packet) output)
 
 -- What was delivered is what came, but for the last, which may be the mark in place of a packet that was refused.
 abbrev pub StandsFor : List Packet → List Packet → Type 0

@@ -1,4 +1,4 @@
--- A relay, step by step: both ends go on in any order, each by itself, and a packet reaches one only after the other sent it.
+-- A relay, step by step: both ends make steps in any order, each by itself, and a packet reaches one only after the other sent it.
 use Rattle.std.specs.Prelude.{◌≡◌, true, [], ◌∷◌, drop, length, Option, Some, None}
 use Rattle.handler_script.specs.ScriptOf.{first_of}
 use Rattle.ipdl_base.specs.declared.kinds.Side.{Side}
@@ -6,11 +6,11 @@ use Rattle.ipdl_base.specs.declared.kinds.Side.TheVariants as sides
 use Rattle.channel_model.specs.Ends.{Packet}
 use Rattle.channel_model.specs.Events.{Event}
 use Rattle.channel_model.specs.Events as event
-use Rattle.channel_model.specs.Numbers.{other}
+use Rattle.ipdl_base.specs.Sides.{other}
 use Rattle.channel_model.specs.Outputs.{Output, is_open}
 use Rattle.channel_model.specs.Steps.{step}
 use Rattle.script_steps.specs.Choices.{Setting}
-use Rattle.relay_runs.specs.HalfRuns.{HalfState, behind, behind_packet, delivered_for, is_within, opening_half, own_event}
+use Rattle.relay_runs.specs.HalfRuns.{HalfState, after, after_packet, delivered_for, is_within, opening_half, own_event}
 
 -- how far both ends have come
 pub record RelayState : Type 0 where
@@ -37,17 +37,17 @@ next_packet side state = first_of (drop (length (half_of side state).came) (half
 -- the other has sent.
 pub data RelayStep (setting : Setting) (side : Side) (state : RelayState) : RelayState → Type 0 where
   acts : (own : Event) (output : Output) → is_within setting side (half_of side state) ≡ true → own_event setting side (half_of side state) ≡ Some own
-      → step setting.schema (half_of side state).end [] own ≡ Some output → RelayStep setting side state (with_half side (behind (half_of side state) output) state)
+      → step setting.schema (half_of side state).end [] own ≡ Some output → RelayStep setting side state (with_half side (after (half_of side state) output) state)
   gets : (packet : Packet) (output : Output) → is_within setting side (half_of side state) ≡ true → own_event setting side (half_of side state) ≡ None
       → is_open (half_of side state).end.state ≡ true → next_packet side state ≡ Some packet
       → step setting.schema (half_of side state).end (delivered_for setting.schema (half_of side state).end packet ∷ []) event.deliver ≡ Some output
-      → RelayStep setting side state (with_half side (behind_packet (half_of side state) packet (delivered_for setting.schema (half_of side state).end packet) output) state)
+      → RelayStep setting side state (with_half side (after_packet (half_of side state) packet (delivered_for setting.schema (half_of side state).end packet) output) state)
 
 -- Steps of the sides, in any order, lead from one state to another.
 pub data LeadsOn (setting : Setting) (from : RelayState) : RelayState → Type 0 where
   stays : LeadsOn setting from from
   steps : (side : Side) (state next : RelayState) → LeadsOn setting from state → RelayStep setting side state next → LeadsOn setting from next
 
--- Both ends have come so far apart from one another: steps lead from the beginning to here.
+-- Both ends have come this far, each by itself: steps lead from the beginning to here.
 abbrev pub IsRelay : Setting → RelayState → Type 0
 IsRelay setting state = LeadsOn setting (opening_relay setting) state

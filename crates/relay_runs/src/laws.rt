@@ -1,3 +1,4 @@
+//! What holds of every half run, and of turns.
 ghost use Rattle.relay_runs.specs.Laws.{MarksComeLast, TurnsAreRelays};
 
 /// The law of marks: what is delivered to an end is what comes to it, but for the last, which may be
@@ -6,8 +7,8 @@ pub fn marks_come_last()
     ensures { MarksComeLast }
 {}
 
-/// The law of turns: what the turns of both sides make is a relay, with a step for each turn that found
-/// something to do.
+/// The law of turns: the turns of both sides make a relay, with a step for each turn that found something
+/// to do.
 pub fn turns_are_relays()
     ensures { TurnsAreRelays }
 {}

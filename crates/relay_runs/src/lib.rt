@@ -1,5 +1,6 @@
-//! Both ends of a run apart from one another, each by what a script says of its side, with what one
-//! sends coming to the other in order (docs/relay.md). No function that runs.
+//! Halves of a run: one end by its side of a script, whatever packets come to it; and relays, in which
+//! what one half sends comes to the other in order (docs/relay.md). This crate has definitions and laws,
+//! and no function that runs.
 #![tactic(auto)]
 
 mod laws;

@@ -1,4 +1,4 @@
--- Lists of exactly the things of which something holds, put together from such lists.
+-- Lists of exactly the things with a property, put together from such lists.
 use Rattle.std.proofs.Common.{◌≡◌, ◌⊎◌, ℕ, zero, suc, List, [], ◌∷◌, ◌++◌, Any, Contains, map, ap, refl, sym, subst, inl, inr, ⊎_elim, arith}
 use Rattle.std.proofs.lemmas.List.Elements.{Contains-append_left, Contains-append_right, Contains-append_cases}
 use Rattle.std.proofs.lemmas.Option.{none-some, same_Some}
@@ -76,12 +76,12 @@ either_place P Q (ps, exact) (qs, other) = (
   ),
 )
 
--- the one place at which something holds, where it holds at all
+-- the one place of a property that holds, or no place
 pub when : {X : Type 0} (D : Type 0) → D ⊎ (D → ⊥) → (q : X) → IsListed (λ p. (q ≡ p) × D)
 when D (inl d) q = same_places (λ p. p ≡ q) (λ p. (q ≡ p) × D) (λ p e. (sym e, d)) (λ p h. sym h.0) (one_place q)
 when D (inr none) q = no_place (λ p. (q ≡ p) × D) (λ p h. none h.1)
 
--- those that have it at some element
+-- the things that have a property at some element
 pub of_any : {X Y : Type 0} (xs : List X) (Holds : X → Y → Type 0) → ((x : X) → IsListed (Holds x)) → IsListed (λ p. Any (λ x. Holds x p) xs)
 of_any [] Holds each = no_place (λ p. Any (λ x. Holds x p) []) (λ p. any_none (λ x. Holds x p))
 of_any (x ∷ xs) Holds each =
@@ -89,7 +89,7 @@ of_any (x ∷ xs) Holds each =
     (λ p. any_more (λ y. Holds y p) x xs) (λ p. any_cases (λ y. Holds y p) x xs)
     (either_place (Holds x) (λ p. Any (λ y. Holds y p) xs) (each x) (of_any xs Holds each))
 
--- those that have it at some element with its index
+-- the things that have a property at some element with its index
 
 none_at : {X : Type 0} (Holds : ℕ → X → Type 0) → AtSome Holds [] → ⊥
 none_at Holds (index, x, e, h) = none-some x e

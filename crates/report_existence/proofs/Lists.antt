@@ -30,7 +30,7 @@ bool_or_not false false = inl refl
 bool_or_not true false = inr (λ e. cc)
 bool_or_not false true = inr (λ e. cc)
 
--- a list begins with another, and so it is that and others
+-- a list begins with another, so it is that list and more elements
 abbrev pub BeginsWith : {X : Type 0} → List X → List X → Type 0
 BeginsWith {X} xs ys = (others : List X) × (ys ≡ xs ++ others)
 
@@ -44,7 +44,7 @@ begins_or_not {X} each (x ∷ xs) (y ∷ ys) = by (each x y) (begins_or_not each
     by (inl e) (inr differ) = inr (λ h. differ (h.0, same_tail y x ys (xs ++ h.0) h.1))
     by (inr differ) rest = inr (λ h. differ (sym (same_head y x ys (xs ++ h.0) h.1)))
 
--- a list ends with another, and so it is others and that
+-- a list ends with another, so it is more elements and that list
 abbrev pub EndsWith : {X : Type 0} → List X → List X → Type 0
 EndsWith {X} xs ys = (others : List X) × (ys ≡ others ++ xs)
 
@@ -69,7 +69,7 @@ ends_or_not {X} each xs (y ∷ ys) = by (same_or_not each (y ∷ ys) xs) (ends_o
     by (inr differ) (inl h) = inl (y ∷ h.0, λ i. y ∷ h.1 i)
     by (inr differ) (inr later) = inr (λ h. no_end differ later h.0 h.1)
 
--- something holds of some element, or something else of each
+-- one property holds of some element, or another of each
 pub some_or_each : {X : Type 0} (P Q : X → Type 0) → ((x : X) → P x ⊎ Q x) → (xs : List X) → ((x : X) × Contains xs x × P x) ⊎ ((x : X) → Contains xs x → Q x)
 some_or_each P Q decide [] = inr (λ x c. absurd (contains_none x c))
 some_or_each {X} P Q decide (x ∷ xs) = by (decide x) (some_or_each P Q decide xs)

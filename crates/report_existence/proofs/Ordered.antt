@@ -3,12 +3,12 @@ use Rattle.std.proofs.Common.{◌≡◌, ◌⊎◌, ◌↔◌, ℕ, zero, suc, �
 use Rattle.std.specs.List.{AllPairs, AllByRecursion}
 use Rattle.report_existence.proofs.Finite.{contains_more, contains_cases}
 
--- Of two among these that differ, one stands before the other.
+-- Of two among these that differ, one is before the other.
 pub record IsOrder {X : Type 0} (Among : X → Type 0) (Before : X → X → Type 0) : Type 0 where
   pub compared : (a b : X) → Among a → Among b → Before a b ⊎ ((a ≡ b) ⊎ Before b a)
   pub trans : (a b c : X) → Among a → Among b → Among c → Before a b → Before b c → Before a c
 
--- each element stands before all later ones
+-- each element is before all later ones
 abbrev Rises : {X : Type 0} → (X → X → Type 0) → List X → Type 0
 Rises Before [] = Unit {0}
 Rises Before (x ∷ xs) = AllByRecursion (Before x) xs × Rises Before xs
@@ -25,12 +25,12 @@ in_pairs Before (x ∷ xs) rises zero (suc j) d before within = all_at (Before x
 in_pairs Before (x ∷ xs) rises (suc i) zero d before within = absurd (omega arith)
 in_pairs Before (x ∷ xs) rises (suc i) (suc j) d before within = in_pairs Before xs rises.1 i j d (omega arith) (omega arith)
 
--- what stands before the first stands before all
+-- what is before the first is before all
 before_all : {X : Type 0} {Among : X → Type 0} {Before : X → X → Type 0} → IsOrder Among Before → (x y : X) (ys : List X) → Among x → Among y → AllByRecursion Among ys → Before x y → AllByRecursion (Before y) ys → AllByRecursion (Before x) ys
 before_all order x y [] ax ay allowed before all = tt
 before_all order x y (z ∷ zs) ax ay allowed before all = (order.trans x y z ax ay allowed.0 before all.0, before_all order x y zs ax ay allowed.1 before all.1)
 
--- a list that rises, with one element put in
+-- a rising list with one element inserted
 record IsPut {X : Type 0} (Among : X → Type 0) (Before : X → X → Type 0) (x : X) (old new : List X) : Type 0 where
   pub rises : Rises Before new
   pub among : AllByRecursion Among new

@@ -1,10 +1,10 @@
--- Lists of exactly the things of which something holds, and reports of findings.
+-- Lists of exactly the things with a property, and reports of findings.
 use Rattle.std.specs.Prelude.{◌↔◌, List}
 use Rattle.std.specs.List.{Contains}
 use Rattle.ipdl_base.specs.declared.finding.Finding.{Finding}
 use Rattle.findings.specs.Report.{IsReport}
 
--- some list has exactly those of which this holds
+-- some list has exactly the things with this property
 abbrev pub IsListed : {X : Type 0} → (X → Type 0) → Type 0
 IsListed {X} Holds = (all : List X) × ((x : X) → Contains all x ↔ Holds x)
 

@@ -1,5 +1,5 @@
-//! The law that every list of findings has a report, and the lemmas by which the laws on what exists list
-//! exactly the findings of a rule. No function that runs.
+//! The law that every list of findings has a report, and the lemmas with which the laws of
+//! existence list exactly the findings of a rule. There is no function that runs.
 #![tactic(auto)]
 
 mod laws;

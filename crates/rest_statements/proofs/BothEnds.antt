@@ -18,12 +18,13 @@ use Rattle.history_reading.specs.declared.parts.PacketKind.TheVariants as seen
 use Rattle.history_reading.specs.SentPacket.{SentPacket, packet_kind}
 use Rattle.history_reading.specs.SentPacket as told
 use Rattle.channel_laws.specs.Notes.{In, here, there}
-use Rattle.channel_laws.proofs.Growing.{in-before, in-behind}
+use Rattle.channel_laws.proofs.Growing.{in-before, in-following}
 use Rattle.progress_laws.proofs.Members.{in-map}
 use Rattle.law_statements.specs.Arrived.{arrives, passing, state_after, state_of}
 use Rattle.law_statements.specs.Packets.{delivered, delivery, is_farewell, sent, sent_at}
 use Rattle.law_statements.specs.Prefix.{DeliversWhatWasSent, Prefix}
-use Rattle.law_statements.specs.Said.{line_of, made_of, other_end, said_by, said_in}
+use Rattle.ipdl_base.specs.Sides.{other}
+use Rattle.law_statements.specs.Said.{line_of, made_of, said_by, said_in}
 use Rattle.law_statements.specs.Stack.{is_sync_of}
 use Rattle.alone_laws.proofs.LivingActors.{made-append}
 use Rattle.order_statements.specs.Order.{Order, packet_taken}
@@ -31,7 +32,7 @@ use Rattle.rest_statements.specs.Rest.{HasEnded}
 
 -- What is in lists
 
--- where an element stands
+-- the place of an element
 record Place {A : Type 0} (x : A) (xs : List A) : Type 0 where
   front : List A
   back : List A
@@ -46,9 +47,9 @@ in-reverse : {A : Type 0} (x : A) (xs : List A) → In x xs → In x (reverse xs
 in-reverse {A} x xs i =
     let p = place-of x xs i in
     subst (In x) (sym (ap reverse p.is ∙ reverse-append p.front (x ∷ p.back) ∙ ap (λ (ys : List A). ys ++ reverse p.front) (reverse-append (x ∷ []) p.back)))
-    (in-before (reverse p.front) (in-behind (reverse p.back) here))
+    (in-before (reverse p.front) (in-following (reverse p.back) here))
 
--- an element of a filtered list is what some element became
+-- an element of a filtered list comes from some element
 record Kept {A B : Type 0} (f : A → Option B) (xs : List A) (y : B) : Type 0 where
   one : A
   in_it : In one xs
@@ -70,14 +71,14 @@ in-kept : {A B : Type 0} (f : A → Option B) (x : A) (y : B) (xs : List A) → 
 in-kept {A} {B} f x y xs e i =
     let p = place-of x xs i in
     subst (In y) (sym (ap (filter_map f) p.is ∙ filter_map-append f p.front (x ∷ p.back) ∙ ap (λ (o : Option B). filter_map f p.front ++ cons_option o (filter_map f p.back)) e))
-    (in-behind (filter_map f p.front) here)
+    (in-following (filter_map f p.front) here)
 
 from-map : {A B : Type 0} (f : A → B) (xs : List A) (y : B) → In y (map f xs) → (x : A) × In x xs × (f x ≡ y)
 from-map f [] y i = elim i [ ]
 from-map f (x ∷ xs) y here = (x, here, refl)
 from-map f (x ∷ xs) y (there i) = let r = from-map f xs y i in (r.0, there r.1, r.2)
 
--- so for a list made of what an end says
+-- the same for a list made from the lines of an end
 record Made {A : Type 0} (make : List What → What → Option A) (ws : List What) (y : A) : Type 0 where
   earlier : List What
   one : What
@@ -99,7 +100,7 @@ made-from {A} make before (w ∷ ws) y i = by (make before w) refl i (made-from 
 in-made : {A : Type 0} (make : List What → What → Option A) (front : List What) (w : What) (back : List What) (y : A) → make front w ≡ Some y → In y (made_of make [] (front ++ w ∷ back))
 in-made {A} make front w back y e =
     subst (In y) (sym (made-append make [] front (w ∷ back) ∙ ap (λ (o : Option A). made_of make [] front ++ cons_option o (made_of make (front ++ w ∷ []) back)) e))
-    (in-behind (made_of make [] front) here)
+    (in-following (made_of make [] front) here)
 
 -- States
 
@@ -112,12 +113,12 @@ opens-never what.ShutAbnormal e = cc
 opens-never what.Die e = cc
 opens-never _ e = cc
 
--- the latest state, where there is one, is of something said
+-- the latest state, if there is one, comes from a line
 latest : (ss : List EndState) (s : EndState) → unwrap_or (slice_get ss 0) state.Open ≡ s → (ss ≡ []) ⊎ In s ss
 latest [] s e = inl refl
 latest (t ∷ ts) s e = inr (subst (λ (u : EndState). In u (t ∷ ts)) e here)
 
--- An open end has said nothing that ends it.
+-- An open end has no line that ends it.
 pub open-said : (own : List What) → state_of own ≡ state.Open → (w : What) → In w own → state_after w ≡ None
 open-said own is w i = by (state_after w) refl (latest (filter_map state_after (reverse own)) state.Open is)
   where
@@ -126,7 +127,7 @@ open-said own is w i = by (state_after w) refl (latest (filter_map state_after (
     by (Some s) e (inl none) = elim (subst (In s) none (in-kept state_after w s (reverse own) e (in-reverse w own i))) [ ]
     by (Some s) e (inr some) = let k = kept-from state_after (reverse own) state.Open some in absurd (opens-never k.one k.is)
 
--- The ends of the channel
+-- The last packets of the channel
 
 -- whether a packet is the goodbye or the mark of a death
 abbrev is_end : PacketKind → Bool
@@ -134,19 +135,19 @@ is_end seen.Goodbye = true
 is_end seen.Broken = true
 is_end _ = false
 
--- An end that sends one closes or dies.
+-- An end that sends a last packet closes or dies.
 sends-end : (schema : Schema) (earlier : List What) (w : What) → option_map_or (λ (p : SentPacket). is_end (packet_kind p)) (sent_at schema earlier w) false ≡ true → state_after w ≡ None → ⊥
 sends-end schema earlier what.Close e q = cc
 sends-end schema earlier what.Die e q = cc
 sends-end schema earlier _ e q = cc
 
--- One to which one is delivered drains.
+-- An end to which the other's last packet is delivered drains.
 delivers-end : (w : What) → option_map_or is_end (delivery w) false ≡ true → state_after w ≡ None → ⊥
 delivers-end what.DeliverGoodbye e q = cc
 delivers-end what.DeliverBroken e q = cc
 delivers-end _ e q = cc
 
--- one that arrives is delivered
+-- a packet that arrives is delivered
 arrives-end : (schema : Schema) (earlier : List What) (w : What) (p : PacketKind) → is_end p ≡ true → passing schema earlier w ≡ Some (arrives p) → delivery w ≡ Some p
 arrives-end schema earlier what.DeliverGoodbye p end e = cc
 arrives-end schema earlier what.DeliverBroken p end e = cc
@@ -169,7 +170,7 @@ any-in {A} test (x ∷ xs) e = by (test x) refl e (any-in test xs)
 
 -- Lines
 
-other-twice : (end : Side) → other_end (other_end end) ≡ end
+other-twice : (end : Side) → other (other end) ≡ end
 other-twice side.Parent = refl
 other-twice side.Child = refl
 
@@ -179,7 +180,7 @@ side-same side.Child side.Child e = refl
 side-same side.Parent side.Child e = cc
 side-same side.Child side.Parent e = cc
 
--- the line of what an end said
+-- the line of an end with this content
 record LineOf (end : Side) (w : What) (lines : List Line) : Type 0 where
   front : List Line
   back : List Line
@@ -209,7 +210,7 @@ is_over state.Closed = true
 is_over state.Dead = true
 is_over _ = false
 
--- What leaves its end closed or dead is one of these.
+-- A line after which its end is closed or dead is one of these.
 ends-by : (ws : List What) (w : What) → In w ws → option_map_or is_over (state_after w) false ≡ true → Ending ws
 ends-by ws what.Close i e = closes i
 ends-by ws what.ShutNormal i e = shuts what.ShutNormal seen.Goodbye i refl refl
@@ -232,33 +233,33 @@ has-ended : (end : Side) (before : List Line) → HasEnded end before → Ending
 has-ended end before (inl is) = ended-by (said_by end before) state.Closed refl is
 has-ended end before (inr is) = ended-by (said_by end before) state.Dead refl is
 
--- Where one end is open and all that the other sent was delivered to it, the other has not ended.
-pub one-open : (schema : Schema) (lines : List Line) → Prefix schema lines → Order schema lines → (before behind : List Line) → lines ≡ before ++ behind
-    → (end : Side) → state_of (said_by end before) ≡ state.Open → delivered (said_by end before) ≡ map packet_kind (sent schema (said_by (other_end end) before)) → HasEnded (other_end end) before → ⊥
-one-open schema lines prefix order before behind lines_are end is_open_end all ended = by (has-ended (other_end end) before ended)
+-- Where one end is open and all that the other has sent was delivered to it, the other has not ended.
+pub one-open : (schema : Schema) (lines : List Line) → Prefix schema lines → Order schema lines → (before following : List Line) → lines ≡ before ++ following
+    → (end : Side) → state_of (said_by end before) ≡ state.Open → delivered (said_by end before) ≡ map packet_kind (sent schema (said_by (other end) before)) → HasEnded (other end) before → ⊥
+one-open schema lines prefix order before following lines_are end is_open_end all ended = by (has-ended (other end) before ended)
   where
     own : List What
     own = said_by end before
 
     theirs : List What
-    theirs = said_by (other_end end) before
+    theirs = said_by (other end) before
 
     quiet : (w : What) → In w own → state_after w ≡ None
     quiet = open-said own is_open_end
 
-    -- the other end has sent no end
+    -- the other end has sent no last packet
     unsent : (p : SentPacket) → In p (sent schema theirs) → is_end (packet_kind p) ≡ true → ⊥
     unsent p i e =
         let k = kept-from delivery own (packet_kind p) (subst (In (packet_kind p)) (sym all) (in-map packet_kind i)) in
         delivers-end k.one (ap (λ (o : Option PacketKind). option_map_or is_end o false) k.is ∙ e) (quiet k.one k.in_it)
 
-    fronts : DeliversWhatWasSent schema (other_end end) before
-    fronts = prefix.fronts (other_end end) before behind lines_are
+    prefixes : DeliversWhatWasSent schema (other end) before
+    prefixes = prefix.prefixes (other end) before following lines_are
 
-    -- none was delivered to it
+    -- no last packet was delivered to it
     undelivered : (w : What) (p : PacketKind) → In w theirs → delivery w ≡ Some p → is_end p ≡ true → ⊥
     undelivered w p i is e =
-        let shown : In p (map packet_kind (sent schema (said_by (other_end (other_end end)) before))) = subst (In p) (sym fronts.1) (in-before fronts.0 (in-kept delivery w p theirs is i)) in
+        let shown : In p (map packet_kind (sent schema (said_by (other (other end)) before))) = subst (In p) (sym prefixes.1) (in-before prefixes.0 (in-kept delivery w p theirs is i)) in
         let m = from-map packet_kind (sent schema own) p (subst (λ (s : Side). In p (map packet_kind (sent schema (said_by s before)))) (other-twice end) shown) in
         let k = made-from (sent_at schema) [] own m.0 m.1 in
         sends-end schema k.earlier k.one (ap (λ (o : Option SentPacket). option_map_or (λ (q : SentPacket). is_end (packet_kind q)) o false) k.is ∙ ap is_end m.2 ∙ e) (quiet k.one k.in_it)
@@ -284,11 +285,11 @@ one-open schema lines prefix order before behind lines_are end is_open_end all e
     by : Ending theirs → ⊥
     by (closes i) = by-close i
     by (shuts w p i taken e) =
-        let l = line-said (other_end end) w before i in
-        let t = order.takes (other_end end) w p l.front (l.back ++ behind) (lines_are ∙ ap (λ (ls : List Line). ls ++ behind) l.is ∙ append_assoc l.front (line_of (other_end end) w ∷ l.back) behind) taken in
-        let m = made-from (passing schema) [] (said_by (other_end end) l.front) (arrives p) (subst (In (arrives p)) (sym t.arrival) (in-behind t.earlier here)) in
-        let before_is : theirs ≡ said_by (other_end end) l.front ++ said_by (other_end end) (line_of (other_end end) w ∷ l.back) = ap (said_by (other_end end)) l.is ∙ filter_map-append (said_in (other_end end)) l.front (line_of (other_end end) w ∷ l.back) in
-        undelivered m.one p (subst (In m.one) (sym before_is) (in-before (said_by (other_end end) (line_of (other_end end) w ∷ l.back)) m.in_it)) (arrives-end schema m.earlier m.one p e m.is) e
+        let l = line-said (other end) w before i in
+        let t = order.takes (other end) w p l.front (l.back ++ following) (lines_are ∙ ap (λ (ls : List Line). ls ++ following) l.is ∙ append_assoc l.front (line_of (other end) w ∷ l.back) following) taken in
+        let m = made-from (passing schema) [] (said_by (other end) l.front) (arrives p) (subst (In (arrives p)) (sym t.arrival) (in-following t.earlier here)) in
+        let before_is : theirs ≡ said_by (other end) l.front ++ said_by (other end) (line_of (other end) w ∷ l.back) = ap (said_by (other end)) l.is ∙ filter_map-append (said_in (other end)) l.front (line_of (other end) w ∷ l.back) in
+        undelivered m.one p (subst (In m.one) (sym before_is) (in-before (said_by (other end) (line_of (other end) w ∷ l.back)) m.in_it)) (arrives-end schema m.earlier m.one p e m.is) e
     by (dies i) =
         let p = place-of what.Die theirs i in
         by-mark p.front p.back p.is (list_any is_farewell p.front) refl

@@ -25,7 +25,8 @@ use Rattle.history_reading.specs.Rows.{is_sync_number, is_sync_row, wants_number
 use Rattle.history_reading.specs.SentPacket.{Request, SentPacket, broken, packet_kind, request_of, requests_of}
 use Rattle.law_statements.specs.Arrived.{IsArrived, Passing, arrives, gives_up, is_arrival, is_giving_up, is_leaving, leaves, passing, passings, state_after, state_of}
 use Rattle.law_statements.specs.Packets.{delivered, delivery, is_farewell, number_settled, sent, sent_at, settled}
-use Rattle.law_statements.specs.Said.{is_moment, line_of, made_of, other_end, said_by, said_in}
+use Rattle.ipdl_base.specs.Sides.{other as other_end}
+use Rattle.law_statements.specs.Said.{is_moment, line_of, made_of, said_by, said_in}
 use Rattle.law_statements.specs.Stack.{is_sync_of}
 use Rattle.channel_laws.specs.Notes.{In, here, there}
 use Rattle.channel_laws.proofs.SentAccounts.{requests-append}
@@ -36,7 +37,7 @@ use Rattle.rest_statements.proofs.BothEnds.{open-said, side-same}
 
 -- Where an element comes from
 
--- an element that makes one which passes, in a list made in order
+-- an element from which one that passes was made, in a list made in order
 record MadeAt {A : Type 0} (make : List What → What → Option A) (test : A → Bool) (before own : List What) : Type 0 where
   front : List What
   w : What
@@ -80,13 +81,13 @@ or-right : (a b : Bool) → b ≡ true → (a || b) ≡ true
 or-right true b h = refl
 or-right false b h = h
 
--- An open end has said nothing that ends it
+-- An open end has no line that ends it
 
 all-quiet : (own : List What) → ((w : What) → In w own → state_after w ≡ None) → AllByRecursion (λ w. state_after w ≡ None) own
 all-quiet [] f = tt
 all-quiet (w ∷ own) f = (f w here, all-quiet own (λ v i. f v (there i)))
 
--- so it gives nothing up
+-- so the end gives nothing up
 no-giving-up : (schema : Schema) (before own : List What) → AllByRecursion (λ w. state_after w ≡ None) own → list_any is_giving_up (made_of (passing schema) before own) ≡ false
 no-giving-up schema before [] h = refl
 no-giving-up schema before (w ∷ own) h = by w h.0 (no-giving-up schema (before ++ w ∷ []) own h.1)
@@ -165,7 +166,7 @@ first-apart n (q ∷ rs) r h e = by (int_eq q.seq n) e (first-apart n rs r h.1)
     by true k rec = let same : q ≡ r = cc in subst Apart same h.0
     by false k rec = rec k
 
--- the request of a number is the first, also among more
+-- the request of a number is the first, even among more
 first-stays : (n : ℤ) (xs ys : List Request) (q : Request) → find (λ r. int_eq r.seq n) xs ≡ Some q → find (λ r. int_eq r.seq n) (xs ++ ys) ≡ Some q
 first-stays n [] ys q e = cc
 first-stays n (x ∷ xs) ys q e = by (int_eq x.seq n) e (first-stays n xs ys q)
@@ -189,7 +190,7 @@ not-sync schema front back n r is wants = by (request_of (sent schema front) n) 
         ap (λ o. option_map_or (λ (q : Request). q.sync) o false) e ∙ ap (λ (x : Request). x.sync) same
         ∙ first-apart n (requests_of (sent schema (front ++ back))) r (all-apart schema [] (front ++ back)) is wants
 
--- What an answer leaves
+-- What follows from an answer
 
 -- a line that answers a request sends a reply to it
 answer-sends : (schema : Schema) (before : List What) (w : What) (n m : ℤ) → number_answered w ≡ Some m → int_eq m n ≡ true → (rest : List SentPacket)
@@ -238,7 +239,7 @@ reply-line what.DeliverGoodbye n p e s = let same : seen.Goodbye ≡ p = cc in a
 reply-line what.DeliverBroken n p e s = let same : seen.Broken ≡ p = cc in absurd (false≢true (subst (λ (q : PacketKind). same_packet q (seen.Reply n) ≡ true) (sym same) s))
 reply-line _ n p e s = cc
 
--- a reply leaves by being taken
+-- a reply leaves when it is taken
 leaving-line : (schema : Schema) (before : List What) (w : What) (n : ℤ) (p : Passing) → passing schema before w ≡ Some p → is_leaving (seen.Reply n) p ≡ true → w ≡ what.TakeReply n
 leaving-line schema before w n (arrives q) e l = absurd (false≢true l)
 leaving-line schema before w n gives_up e l = absurd (false≢true l)
@@ -253,7 +254,7 @@ leaving-line schema before (what.Drop m a b c) n (leaves q) e l = let same : see
 leaving-line schema before (what.Replaced m) n (leaves q) e l = let same : seen.Request m ≡ q = cc in absurd (false≢true (subst (λ (x : PacketKind). same_packet x (seen.Reply n) ≡ true) (sym same) l))
 leaving-line schema before _ n (leaves q) e l = cc
 
--- what was said stands at a place of the lines
+-- what an end printed has a place among the lines
 record SaidAt (end : Side) (w : What) (lines : List Line) : Type 0 where
   front : List Line
   back : List Line
@@ -281,13 +282,13 @@ said-at end (l ∷ lines) front w back e = by (same_side l.side end) refl front 
         let p = rec front w back k in
         (record { front = l ∷ p.0.front; back = p.0.back; is = ap (λ ls. l ∷ ls) p.0.is }, ap (λ (b : Bool). cons_option (if b then Some l.what else None) (said_by end p.0.front)) is ∙ p.1)
 
--- an effect that follows directly stands before the next moment
-effect-inside : (end : Side) (w : What) (back behind later : List Line) → IsTrue (is_effect w) → IsTrue (is_moment behind) → back ++ behind ≡ line_of end w ∷ later → (more : List Line) × (back ≡ line_of end w ∷ more)
-effect-inside end w [] behind later effect moment e =
+-- an effect that follows directly is before the next moment
+effect-inside : (end : Side) (w : What) (back following later : List Line) → IsTrue (is_effect w) → IsTrue (is_moment following) → back ++ following ≡ line_of end w ∷ later → (more : List Line) × (back ≡ line_of end w ∷ more)
+effect-inside end w [] following later effect moment e =
     absurd (false≢true (sym (ap not effect) ∙ subst (λ (b : List Line). is_moment b ≡ true) e moment))
-effect-inside end w (l ∷ back) behind later effect moment e = let same : l ≡ line_of end w = cc in (back, ap (λ (x : Line). x ∷ back) same)
+effect-inside end w (l ∷ back) following later effect moment e = let same : l ≡ line_of end w = cc in (back, ap (λ (x : Line). x ∷ back) same)
 
-module _ (schema : Schema) (lines before behind : List Line) (effects : Effects schema lines) (at : lines ≡ before ++ behind) (moment : IsTrue (is_moment behind)) (end : Side) where
+module _ (schema : Schema) (lines before following : List Line) (effects : Effects schema lines) (at : lines ≡ before ++ following) (moment : IsTrue (is_moment following)) (end : Side) where
   own : List What
   own = said_by end before
 
@@ -298,11 +299,11 @@ module _ (schema : Schema) (lines before behind : List Line) (effects : Effects 
   taken-settles : (n : ℤ) (front back : List What) → said_by end before ≡ front ++ what.TakeReply n ∷ back → has (settled (said_by end before)) n ≡ false → ⊥
   taken-settles n front back is unsettled =
       let p = said-at end before front (what.TakeReply n) back is in
-      let place : lines ≡ p.0.front ++ line_of end (what.TakeReply n) ∷ (p.0.back ++ behind) = at ∙ ap (λ ls. ls ++ behind) p.0.is ∙ append_assoc p.0.front (line_of end (what.TakeReply n) ∷ p.0.back) behind in
+      let place : lines ≡ p.0.front ++ line_of end (what.TakeReply n) ∷ (p.0.back ++ following) = at ∙ ap (λ ls. ls ++ following) p.0.is ∙ append_assoc p.0.front (line_of end (what.TakeReply n) ∷ p.0.back) following in
       let said = said-split p.0.front p.0.back p.0.is in
       let first : has (settled (said_by end p.0.front)) n ≡ false = earlier (said_by end p.0.front) (what.TakeReply n ∷ said_by end p.0.back) said in
-      let s = effects.settles end n p.0.front (p.0.back ++ behind) place first in
-      let inside = effect-inside end s.0 p.0.back behind s.2.later (and-first (is_effect s.0) s.2.are_effects) moment s.2.split in
+      let s = effects.settles end n p.0.front (p.0.back ++ following) place first in
+      let inside = effect-inside end s.0 p.0.back following s.2.later (and-first (is_effect s.0) s.2.are_effects) moment s.2.split in
       let w_in : said_by end before ≡ said_by end p.0.front ++ (what.TakeReply n ∷ (s.0 ∷ said_by end inside.0)) =
       said ∙ ap (λ ls. said_by end p.0.front ++ (what.TakeReply n ∷ said_by end ls)) inside.1 ∙ ap (λ ws. said_by end p.0.front ++ (what.TakeReply n ∷ ws)) (own-said s.0 inside.0) in
       false≢true (sym unsettled ∙ ap (λ ws. has (settled ws) n) w_in ∙ has-settled (said_by end p.0.front) s.0 (said_by end inside.0) s.1)
@@ -369,7 +370,7 @@ module _ (schema : Schema) (lines before behind : List Line) (effects : Effects 
                   cases false gone =
                       let zero = count-none (is_leaving (seen.Reply n)) (arrives (seen.Reply n) ∷ later) gone in
                       let one = count-first (is_arrival (seen.Reply n)) (arrives (seen.Reply n)) later ((Decides-int_eq n n).1 refl) in
-                      none (seen.Reply n) (record { before = passings schema d.front; behind = arrives (seen.Reply n) ∷ later; split = passed; kept = kept; more = omega (arith, zero, one) })
+                      none (seen.Reply n) (record { before = passings schema d.front; following = arrives (seen.Reply n) ∷ later; split = passed; kept = kept; more = omega (arith, zero, one) })
                   cases true gone =
                       let l = leaving gone in
                       let take : l.w ≡ what.TakeReply n = leaving-line schema ((d.front ++ what.DeliverReply n ∷ []) ++ l.front) l.w n l.one l.makes l.passes in

@@ -1,4 +1,4 @@
--- What is left where nothing but acts is possible follows from other laws on lines.
+-- What is left where only acts are possible follows from other laws on lines.
 use Rattle.std.proofs.Common.{◌≡◌, ◌⊎◌, inl, inr, IsTrue, List, ◌++◌, map, [], refl, sym, subst}
 use Rattle.ipdl_base.specs.declared.kinds.EndState.{EndState}
 use Rattle.ipdl_base.specs.declared.kinds.EndState.TheVariants as state
@@ -11,7 +11,8 @@ use Rattle.history_reading.specs.Still.{takes_items}
 use Rattle.law_statements.specs.Arrived.{state_of}
 use Rattle.law_statements.specs.Packets.{delivered, sent}
 use Rattle.law_statements.specs.Prefix.{Prefix}
-use Rattle.law_statements.specs.Said.{is_moment, other_end, said_by}
+use Rattle.ipdl_base.specs.Sides.{other}
+use Rattle.law_statements.specs.Said.{is_moment, said_by}
 use Rattle.law_statements.specs.Stack.{stack}
 use Rattle.law_statements.specs.Waits.{IsStillAt, Waits}
 use Rattle.order_statements.specs.Effects.{Effects}
@@ -30,12 +31,12 @@ use Rattle.rest_statements.proofs.BothEnds.{one-open}
 use Rattle.rest_statements.proofs.Promises.{promise-unanswered}
 use Rattle.rest_statements.proofs.Still.{still-delivered, still-none, still-not-draining, still-stack}
 
-module _ (schema : Schema) (lines : List Line) (prefix : Prefix schema lines) (waits : Waits schema lines) (order : Order schema lines) (effects : Effects schema lines) (before behind : List Line) (at : lines ≡ before ++ behind) (moment : IsTrue (is_moment behind)) (still : (end : Side) → IsStillAt schema end before) where
+module _ (schema : Schema) (lines : List Line) (prefix : Prefix schema lines) (waits : Waits schema lines) (order : Order schema lines) (effects : Effects schema lines) (before following : List Line) (at : lines ≡ before ++ following) (moment : IsTrue (is_moment following)) (still : (end : Side) → IsStillAt schema end before) where
   stacks : (end : Side) → stack schema end before ≡ []
-  stacks end = still-stack schema lines waits before behind at moment still end
+  stacks end = still-stack schema lines waits before following at moment still end
 
-  all-delivered : (end : Side) → state_of (said_by end before) ≡ state.Open → delivered (said_by end before) ≡ map packet_kind (sent schema (said_by (other_end end) before))
-  all-delivered end opened = still-delivered schema lines prefix before behind at end (still end) opened
+  all-delivered : (end : Side) → state_of (said_by end before) ≡ state.Open → delivered (said_by end before) ≡ map packet_kind (sent schema (said_by (other end) before))
+  all-delivered end opened = still-delivered schema lines prefix before following at end (still end) opened
 
   -- an end that is not draining is open or has ended
   open-or-ended : (end : Side) → (state_of (said_by end before) ≡ state.Open) ⊎ HasEnded end before
@@ -54,7 +55,7 @@ module _ (schema : Schema) (lines : List Line) (prefix : Prefix schema lines) (w
         delivered = all-delivered end opened;
         waiting = still-none schema before end (stacks end) (still end) takes;
         stack = stacks end;
-        promises = promise-unanswered schema lines before behind effects at moment end opened (all-delivered end opened) (still-none schema before end (stacks end) (still end) takes);
+        promises = promise-unanswered schema lines before following effects at moment end opened (all-delivered end opened) (still-none schema before end (stacks end) (still end) takes);
       }
 
   each : (P : Side → Type 0) → P side.Parent → P side.Child → (end : Side) → P end
@@ -66,12 +67,12 @@ module _ (schema : Schema) (lines : List Line) (prefix : Prefix schema lines) (w
     where
       by : (state_of (said_by side.Parent before) ≡ state.Open) ⊎ HasEnded side.Parent before → (state_of (said_by side.Child before) ≡ state.Open) ⊎ HasEnded side.Child before → RestsAt schema before
       by (inl p) (inl c) = both_rest (each (λ end. state_of (said_by end before) ≡ state.Open) p c) (each (λ end. NothingIsLeft schema end before) (nothing-left side.Parent p) (nothing-left side.Child c))
-      by (inl p) (inr c) = absurd (one-open schema lines prefix order before behind at side.Parent p (all-delivered side.Parent p) c)
-      by (inr p) (inl c) = absurd (one-open schema lines prefix order before behind at side.Child c (all-delivered side.Child c) p)
+      by (inl p) (inr c) = absurd (one-open schema lines prefix order before following at side.Parent p (all-delivered side.Parent p) c)
+      by (inr p) (inl c) = absurd (one-open schema lines prefix order before following at side.Child c (all-delivered side.Child c) p)
       by (inr p) (inr c) = both_ended (each (λ end. HasEnded end before) p c) stacks
 
 pub rest_follows : RestFollows
-rest_follows schema lines prefix waits order effects = record { rests = λ before behind at moment still. rests-at schema lines prefix waits order effects before behind at moment still }
+rest_follows schema lines prefix waits order effects = record { rests = λ before following at moment still. rests-at schema lines prefix waits order effects before following at moment still }
 
 pub histories_rest : HistoriesRest
 histories_rest schema sound top moves =

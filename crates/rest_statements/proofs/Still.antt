@@ -1,4 +1,4 @@
--- What is left at an end where nothing but acts is possible.
+-- What is left at an end where only acts are possible.
 use Rattle.std.proofs.Common.{◌≡◌, ℕ, ◌+◌, ◌<◌, ◌≤◌, Bool, true, false, not, if◌then◌else◌, IsTrue, List, [], ◌∷◌, ◌++◌, length, map, count_by, Option, Some, None, refl, sym, ap, subst, ◌∙◌, arith, append_assoc}
 use Rattle.std.specs.List.{list_any}
 use Rattle.std.proofs.lemmas.List.{append-nil, length-append, length-map}
@@ -20,8 +20,9 @@ use Rattle.history_reading.specs.SentPacket.{SentPacket, packet_kind}
 use Rattle.history_reading.specs.Still.{awaited_level, can_take_now, defers, defers_request_head, takes_items}
 use Rattle.law_statements.specs.Arrived.{IsArrived, Passing, arrives, gives_up, is_arrival, is_giving_up, is_leaving, leaves, passing, passings, state_after, state_of}
 use Rattle.law_statements.specs.Packets.{delivered, sent}
-use Rattle.law_statements.specs.Prefix.{IsFront, Prefix}
-use Rattle.law_statements.specs.Said.{is_moment, other_end, said_by}
+use Rattle.law_statements.specs.Prefix.{IsPrefix, Prefix}
+use Rattle.ipdl_base.specs.Sides.{other}
+use Rattle.law_statements.specs.Said.{is_moment, said_by}
 use Rattle.law_statements.specs.Stack.{is_sync_of, stack}
 use Rattle.law_statements.specs.Waits.{IsStillAt, Waits, deferral, defers_kind, inner_of, sent_head}
 use Rattle.law_statements.proofs.Lists.{add, any-add, count-add, made-add}
@@ -35,21 +36,21 @@ none-runs (frame.Dispatch d ∷ below) can none = cc
 none-runs (frame.Unanswered c ∷ below) can none = cc
 none-runs (frame.Answered c ∷ below) can none = cc
 
-pub still-stack : (schema : Schema) (lines : List Line) → Waits schema lines → (before behind : List Line) → lines ≡ before ++ behind → IsTrue (is_moment behind) → ((end : Side) → IsStillAt schema end before) → (end : Side) → stack schema end before ≡ []
-still-stack schema lines waits before behind at m still end = none-runs (stack schema end before) (still end).waiting (waits.still before behind at m still end)
+pub still-stack : (schema : Schema) (lines : List Line) → Waits schema lines → (before following : List Line) → lines ≡ before ++ following → IsTrue (is_moment following) → ((end : Side) → IsStillAt schema end before) → (end : Side) → stack schema end before ≡ []
+still-stack schema lines waits before following at m still end = none-runs (stack schema end before) (still end).waiting (waits.still before following at m still end)
 
 -- No packet waits
 
 none-deferred : (schema : Schema) (end : Side) (before : List Line) → stack schema end before ≡ [] → (arrival : Arrival) → defers (deferral schema end before) arrival ≡ false
 none-deferred schema end before empty arrival =
-    ap (λ (frames : List CallFrame). defers_arrival end (awaited_level schema frames) (inner_of schema (said_by (other_end end) before) (stack schema end before)) arrival) empty
+    ap (λ (frames : List CallFrame). defers_arrival end (awaited_level schema frames) (inner_of schema (said_by (other end) before) (stack schema end before)) arrival) empty
 
 no-head-deferred : (schema : Schema) (end : Side) (before : List Line) → stack schema end before ≡ [] → (head : Option Head) → defers_request_head (deferral schema end before) head ≡ false
 no-head-deferred schema end before empty None = refl
 no-head-deferred schema end before empty (Some head) = none-deferred schema end before empty _
 
 no-kind-deferred : (schema : Schema) (end : Side) (before : List Line) → stack schema end before ≡ [] → (packet : PacketKind) → defers_kind schema end before packet ≡ false
-no-kind-deferred schema end before empty (seen.Request n) = no-head-deferred schema end before empty (sent_head schema (said_by (other_end end) before) n)
+no-kind-deferred schema end before empty (seen.Request n) = no-head-deferred schema end before empty (sent_head schema (said_by (other end) before) n)
 no-kind-deferred schema end before empty (seen.Reply n) = none-deferred schema end before empty (reply false)
 no-kind-deferred schema end before empty seen.Goodbye = none-deferred schema end before empty goodbye
 no-kind-deferred schema end before empty seen.Broken = none-deferred schema end before empty mark
@@ -64,15 +65,15 @@ front-whole ds sents short [] is = sym (append-nil ds) ∙ sym is
 front-whole ds sents short (p ∷ more) is =
     absurd (omega (arith, short, sym (length-map sents packet_kind) ∙ ap length is ∙ length-append ds (p ∷ more)))
 
-pub still-delivered : (schema : Schema) (lines : List Line) → Prefix schema lines → (before behind : List Line) → lines ≡ before ++ behind → (end : Side) → IsStillAt schema end before → state_of (said_by end before) ≡ state.Open
-    → delivered (said_by end before) ≡ map packet_kind (sent schema (said_by (other_end end) before))
-still-delivered schema lines prefix before behind at end still is_open =
-    let front : IsFront (delivered (said_by end before)) (map packet_kind (sent schema (said_by (other_end end) before))) = prefix.fronts end before behind at in
-    front-whole (delivered (said_by end before)) (sent schema (said_by (other_end end) before)) (still.delivered is_open) front.0 front.1
+pub still-delivered : (schema : Schema) (lines : List Line) → Prefix schema lines → (before following : List Line) → lines ≡ before ++ following → (end : Side) → IsStillAt schema end before → state_of (said_by end before) ≡ state.Open
+    → delivered (said_by end before) ≡ map packet_kind (sent schema (said_by (other end) before))
+still-delivered schema lines prefix before following at end still is_open =
+    let front : IsPrefix (delivered (said_by end before)) (map packet_kind (sent schema (said_by (other end) before))) = prefix.prefixes end before following at in
+    front-whole (delivered (said_by end before)) (sent schema (said_by (other end) before)) (still.delivered is_open) front.0 front.1
 
 -- An end does not drain
 
--- whether a packet is the end of the channel: a goodbye, or the mark of a death
+-- whether a packet is a last packet: a goodbye, or the mark of a death
 abbrev is_end : PacketKind → Bool
 is_end seen.Goodbye = true
 is_end seen.Broken = true
@@ -88,12 +89,12 @@ stays packet (Some gives_up) = false
 arrived-longer : (schema : Schema) (told : List What) (w : What) (packet : PacketKind) (x : Passing) → passing schema told w ≡ Some x → is_giving_up x ≡ false → is_leaving packet x ≡ false → IsArrived schema told packet → IsArrived schema (told ++ w ∷ []) packet
 arrived-longer schema told w packet x is given leaving a = record {
   before = a.before;
-  behind = a.behind ++ x ∷ [];
-  split = made-add (passing schema) [] told w ∙ (ap (add (passings schema told)) is ∙ (ap (λ (ps : List Passing). ps ++ x ∷ []) a.split ∙ append_assoc a.before a.behind (x ∷ [])));
-  kept = any-add is_giving_up a.behind x ∙ (ap (λ (b : Bool). if b then true else list_any is_giving_up a.behind) given ∙ a.kept);
+  following = a.following ++ x ∷ [];
+  split = made-add (passing schema) [] told w ∙ (ap (add (passings schema told)) is ∙ (ap (λ (ps : List Passing). ps ++ x ∷ []) a.split ∙ append_assoc a.before a.following (x ∷ [])));
+  kept = any-add is_giving_up a.following x ∙ (ap (λ (b : Bool). if b then true else list_any is_giving_up a.following) given ∙ a.kept);
   more =
-      subst (λ (n : ℕ). n < count_by (is_arrival packet) (a.behind ++ x ∷ [])) (sym (count-add (is_leaving packet) a.behind x ∙ ap (λ (b : Bool). if b then count_by (is_leaving packet) a.behind + 1 else count_by (is_leaving packet) a.behind) leaving))
-      (subst (λ (n : ℕ). count_by (is_leaving packet) a.behind < n) (sym (count-add (is_arrival packet) a.behind x)) (up (is_arrival packet x) (count_by (is_leaving packet) a.behind) (count_by (is_arrival packet) a.behind) a.more));
+      subst (λ (n : ℕ). n < count_by (is_arrival packet) (a.following ++ x ∷ [])) (sym (count-add (is_leaving packet) a.following x ∙ ap (λ (b : Bool). if b then count_by (is_leaving packet) a.following + 1 else count_by (is_leaving packet) a.following) leaving))
+      (subst (λ (n : ℕ). count_by (is_leaving packet) a.following < n) (sym (count-add (is_arrival packet) a.following x)) (up (is_arrival packet x) (count_by (is_leaving packet) a.following) (count_by (is_arrival packet) a.following) a.more));
 }
   where
     up : (b : Bool) (l n : ℕ) → l < n → l < (if b then n + 1 else n)
@@ -101,7 +102,7 @@ arrived-longer schema told w packet x is given leaving a = record {
     up false l n less = less
 
 arrived-stays : (schema : Schema) (told : List What) (w : What) (packet : PacketKind) (o : Option Passing) → passing schema told w ≡ o → IsTrue (stays packet o) → IsArrived schema told packet → IsArrived schema (told ++ w ∷ []) packet
-arrived-stays schema told w packet None is s a = record { before = a.before; behind = a.behind; split = made-add (passing schema) [] told w ∙ (ap (add (passings schema told)) is ∙ a.split); kept = a.kept; more = a.more }
+arrived-stays schema told w packet None is s a = record { before = a.before; following = a.following; split = made-add (passing schema) [] told w ∙ (ap (add (passings schema told)) is ∙ a.split); kept = a.kept; more = a.more }
 arrived-stays schema told w packet (Some (arrives p)) is s a = arrived-longer schema told w packet (arrives p) is refl refl a
 arrived-stays schema told w packet (Some (leaves p)) is s a = arrived-longer schema told w packet (leaves p) is refl (off (same_packet p packet) s) a
   where
@@ -113,7 +114,7 @@ arrived-stays schema told w packet (Some gives_up) is s a = cc
 just-arrived : (schema : Schema) (told : List What) (w : What) (packet : PacketKind) → passing schema told w ≡ Some (arrives packet) → same_packet packet packet ≡ true → IsArrived schema (told ++ w ∷ []) packet
 just-arrived schema told w packet is same = record {
   before = passings schema told;
-  behind = arrives packet ∷ [];
+  following = arrives packet ∷ [];
   split = made-add (passing schema) [] told w ∙ ap (add (passings schema told)) is;
   kept = refl;
   more = subst (λ (b : Bool). 0 < (0 + (if b then 1 else 0))) (sym same) (omega arith);
@@ -123,7 +124,7 @@ reply-stays : (packet : PacketKind) (n : _) (b : Bool) → IsTrue (stays packet 
 reply-stays packet n true = refl
 reply-stays packet n false = refl
 
--- an end of the channel that has arrived is still there after a line that leaves the state as it is
+-- a last packet that has arrived is still there after a line that leaves the state as it is
 end-stays : (schema : Schema) (told : List What) (packet : PacketKind) → IsTrue (is_end packet) → (w : What) → state_after w ≡ None → IsTrue (stays packet (passing schema told w))
 end-stays schema told seen.Goodbye is (what.DeliverReply n) none = reply-stays seen.Goodbye n (is_sync_of schema told n)
 end-stays schema told seen.Broken is (what.DeliverReply n) none = reply-stays seen.Broken n (is_sync_of schema told n)
@@ -146,7 +147,7 @@ record EndArrived (schema : Schema) (told : List What) : Type 0 where
   ends : IsTrue (is_end packet)
   arrived : IsArrived schema told packet
 
--- an end drains only where one has
+-- an end drains only if a last packet has arrived
 abbrev DrainsByEnd : Schema → List What → Type 0
 DrainsByEnd schema told = state_of told ≡ state.Draining → EndArrived schema told
 

@@ -1,4 +1,4 @@
--- What the laws say of rest.
+-- The laws of rest, on lines.
 use Rattle.std.specs.Prelude.{ℕ, List}
 use Rattle.ipdl_base.specs.declared.line.Line.{Line}
 use Rattle.ipdl_base.specs.declared.schema.Schema.{Schema}
@@ -11,10 +11,11 @@ use Rattle.order_statements.specs.Effects.{Effects}
 use Rattle.order_statements.specs.Order.{Order}
 use Rattle.rest_statements.specs.Rest.{Rest}
 
--- Every list of lines that obeys Prefix and Waits, keeps the order and has the effects that are owed rests as it should.
+-- Every list of lines that obeys Prefix and Waits, keeps the order and has the effects that are owed rests as it
+-- should.
 abbrev pub RestFollows : Type 0
 RestFollows = (schema : Schema) (lines : List Line) → Prefix schema lines → Waits schema lines → Order schema lines → Effects schema lines → Rest schema lines
 
--- So every legal history does.
+-- Every legal history rests as it should.
 abbrev pub HistoriesRest : Type 0
 HistoriesRest = (schema : Schema) → IsSound schema → (top : ℕ) (moves : List Move) → Rest schema (history_of schema top moves)

@@ -1,5 +1,6 @@
-//! What is left where nothing but acts is possible, as a statement on the lines of a history (docs/laws.md), which follows from
-//! others. No function that runs.
+//! What is left where only acts are possible, as a statement on the lines of a history (docs/laws.md). It
+//! follows from
+//! other statements. No function of this crate computes anything.
 #![tactic(auto)]
 
 mod laws;

@@ -7,11 +7,11 @@ use Rattle.report_existence.specs.Laws.{IsListed}
 use Rattle.report_existence.proofs.Finite.{same_places, when, of_some}
 use Rattle.name_existence.proofs.Decisions.{contains_or_not}
 
--- the one place of what is decided
+-- the one place of a decided property
 pub at_place : {X : Type 0} (D : Type 0) → D ⊎ (D → ⊥) → (q : X) → IsListed (λ p. D × (q ≡ p))
 at_place D decided q = same_places (λ p. (q ≡ p) × D) (λ p. D × (q ≡ p)) (λ p h. (h.1, h.0)) (λ p h. (h.1, h.0)) (when D decided q)
 
--- the places of names that stand earlier too
+-- the places of names that are earlier in the list too
 pub of_repeated : (names : List (List ℕ × Place)) → IsListed (IsRepeatedAt names)
 of_repeated names =
     of_some names (λ index name place. Contains (take index (map (λ n. n.0) names)) name.0 × (name.1 ≡ place))

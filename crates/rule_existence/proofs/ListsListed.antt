@@ -38,7 +38,7 @@ has_message_or_not semantics program protocol message =
     (any_or_not (λ m. (m.semantics ≡ semantics) × (m.name ≡ message)) (λ m. both_or_not (same_semantics_or_not m.semantics semantics) (text_or_not m.name message)) p.messages))
     program
 
--- what holds for async and for sync holds for all semantics
+-- a property of async and of sync holds of all semantics
 for_both : (P : Semantics → Type 0) → P Async → P Sync → (semantics : Semantics) → P semantics
 for_both P async sync Async = async
 for_both P async sync Sync = sync

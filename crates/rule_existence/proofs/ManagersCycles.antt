@@ -1,4 +1,4 @@
--- Which protocols name each other as managers, and which are in cycles of managers, is decided.
+-- It is decided which protocols name each other as managers, and which are in cycles of managers.
 use Rattle.std.proofs.lemmas.Bool.{cases_eq}
 use Rattle.std.proofs.Common.{◌≢◌, ◌⊎◌, ℕ, List, Contains, Any, length, inl, inr}
 use Rattle.ipdl_syntax.specs.declared.program.Entry.{Entry}
@@ -28,7 +28,7 @@ manager_or_not program file other =
 
 -- Paths by managers
 
--- the file of a protocol is one of the program, and so is each from which managers lead
+-- the file of a protocol is one of the program, and so is each file from which managers lead
 leads_below : {program : List Entry} {file other : ℕ} → LeadsTo program file other → Contains (numbers_below (length program)) file
 leads_below {program} {file} (one h) = is_below (length program) file (protocol_within program file h.protocol h.there)
 leads_below {program} {file} (more h path) = is_below (length program) file (protocol_within program file h.protocol h.there)

@@ -1,4 +1,4 @@
--- What the name of a protocol finds, and what holds of it, is decided.
+-- It is decided what the name of a protocol finds, and which properties it has.
 use Rattle.report_existence.proofs.Lists.{text_or_not}
 use Rattle.std.proofs.Common.{◌≡◌, ◌⊎◌, ◌∙◌, ℕ, false, true≢false, List, Option, Some, None, refl, sym, ap, subst, inl, inr}
 use Rattle.std.proofs.lemmas.Option.{none-some}
@@ -36,7 +36,7 @@ one_protocol_by program file name other (found.Many d e) counts = inr (λ h. cou
 pub one_protocol_or_not : (program : List Entry) (file : ℕ) (name : List ℕ) (other : ℕ) → FindsOneProtocol program file name other ⊎ (FindsOneProtocol program file name other → ⊥)
 one_protocol_or_not program file name other = let a = protocol_names_have_answers program file name in one_protocol_by program file name other a.0 a.1
 
--- One protocol of which something holds
+-- One protocol with a property
 
 module _ (Holds : ℕ → ProtocolDecl → Type 0) (decided : (other : ℕ) (q : ProtocolDecl) → Holds other q ⊎ (Holds other q → ⊥)) (program : List Entry) (file : ℕ) (name : List ℕ) where
   holds_or_not : (other : ℕ) (q : ProtocolDecl) → FindsOneProtocol program file name other → protocol_of program other ≡ Some q → Holds other q ⊎ (Holds other q → ⊥) → FindsWith Holds program file name ⊎ (FindsWith Holds program file name → ⊥)

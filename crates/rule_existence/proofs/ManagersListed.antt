@@ -1,4 +1,4 @@
--- The findings of the rules on managers and on what protocols manage are listed.
+-- The findings of the rules on managers and managed protocols are listed.
 use Rattle.std.proofs.Common.{◌≡◌, ◌≢◌, ◌⊎◌, ℕ, List, [], ◌∷◌, Any, IsSomeAnd, codes, refl, inl, inr}
 use Rattle.ipdl_base.specs.declared.finding.Place.{Place}
 use Rattle.ipdl_base.specs.declared.finding.TheConstants.Rule as rule
@@ -19,16 +19,16 @@ use Rattle.rule_existence.proofs.ManagersFound.{message_or_not, no_protocol_or_n
 use Rattle.rule_existence.proofs.MessagesKinds.{converts_or_not}
 use Rattle.rule_existence.proofs.MessagesPlaces.{of_some_and}
 
--- those that the protocol of some file has, with the number of the file
+-- the things that the protocol of some file has, with the number of the file
 of_file_protocols : (program : List Entry) (Holds : ℕ → ProtocolDecl → Place → Type 0) → ((file : ℕ) (p : ProtocolDecl) → IsListed (Holds file p)) → IsListed (λ place. SomeProtocol (λ file p. Holds file p place) program)
 of_file_protocols program Holds each =
     of_some program (λ file e place. IsSomeAnd e.unit.protocol (λ p. Holds file p place)) (λ file e. of_some_and e.unit.protocol (Holds file) (each file))
 
--- the places of those names of which something decided holds
+-- the places of those names with a decided property
 of_names : (Holds : NameAt → Type 0) → ((n : NameAt) → Holds n ⊎ (Holds n → ⊥)) → (names : List NameAt) → IsListed (λ place. AtName Holds place names)
 of_names Holds decided names = of_any names (λ n place. Holds n × (n.place ≡ place)) (λ n. at_place (Holds n) (decided n) n.place)
 
--- the places of those names that find one protocol of which something decided holds
+-- the places of those names that find one protocol with a decided property
 of_found : (program : List Entry) (file : ℕ) (Holds : ℕ → ProtocolDecl → Type 0) → ((other : ℕ) (q : ProtocolDecl) → Holds other q ⊎ (Holds other q → ⊥)) → (names : List NameAt) → IsListed (λ place. AtName (λ n. FindsWith Holds program file n.name) place names)
 of_found program file Holds decided names = of_names (λ n. FindsWith Holds program file n.name) (λ n. with_or_not Holds decided program file n.name) names
 

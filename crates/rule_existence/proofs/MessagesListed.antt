@@ -15,7 +15,7 @@ use Rattle.rule_existence.proofs.Listed.{at_place, of_repeated}
 use Rattle.rule_existence.proofs.MessagesDecided.{bad_compress_or_not, bad_lazy_or_not, bad_maker_or_not, inside_cpow_or_not, inside_sync_or_not, plain_sync_or_not, stronger_or_not, too_many_or_not}
 use Rattle.rule_existence.proofs.MessagesPlaces.{of_protocols}
 
--- the places of the messages of which something decided holds
+-- the places of the messages with a decided property
 messages_listed : (Holds : ProtocolDecl → ℕ → MessageDecl → Type 0) → ((p : ProtocolDecl) (index : ℕ) (m : MessageDecl) → Holds p index m ⊎ (Holds p index m → ⊥)) → (program : List Entry) → IsListed (SomeMessage Holds program)
 messages_listed Holds each program =
     of_protocols program (λ p place. AtSome (λ index m. Holds p index m × (m.place ≡ place)) p.messages)

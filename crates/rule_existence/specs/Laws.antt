@@ -1,4 +1,4 @@
--- What programs break is listed.
+-- The findings of programs are listed.
 use Rattle.std.specs.Prelude.{List}
 use Rattle.ipdl_syntax.specs.declared.program.Entry.{Entry}
 use Rattle.manager_rules.specs.Broken.{BrokenAt as ManagersBrokenAt}
@@ -16,10 +16,10 @@ TypeFindingsAreListed = (program : List Entry) → IsListed (TypesBrokenAt progr
 abbrev pub MessageFindingsAreListed : Type 0
 MessageFindingsAreListed = (program : List Entry) → IsListed (MessagesBrokenAt program)
 
--- For every program and the sections of every sync list some list has exactly the findings of the rules of the sync list.
+-- For every program and every sync list some list has exactly the findings of the rules of the sync list.
 abbrev pub ListFindingsAreListed : Type 0
 ListFindingsAreListed = (program : List Entry) (sections : List Section) → IsListed (ListBrokenAt program sections)
 
--- For every program some list has exactly the findings of the rules on managers and on what protocols manage.
+-- For every program some list has exactly the findings of the rules on managers and managed protocols.
 abbrev pub ManagerFindingsAreListed : Type 0
 ManagerFindingsAreListed = (program : List Entry) → IsListed (ManagersBrokenAt program)

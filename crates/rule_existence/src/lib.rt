@@ -1,5 +1,5 @@
-//! Laws of what programs break: for every program some list has exactly the findings of its rules. No
-//! function that runs.
+//! Laws of the rules that programs break: for every program some list has exactly the findings of
+//! its rules. There is no function that runs.
 #![tactic(auto)]
 
 mod laws;

@@ -14,7 +14,7 @@ use Rattle.script_steps.specs.Turns.{RunEnding, at_limit, at_rest, is_quiet, is_
 use Rattle.script_transcripts.proofs.Ends.{cases_end}
 use Rattle.script_transcripts.proofs.Fronts.{legal_texts_decide, replays_decide}
 use Rattle.script_transcripts.specs.Legal.{AreFirstLines, AreLegalSoFar, IsLegalText}
-use Rattle.transcript_laws.specs.TextLines.{text_lines}
+use Rattle.transcripts.specs.TextLines.{text_lines}
 use Rattle.run_existence.specs.Laws.{IsRunnable, TextsAreDecided}
 use Rattle.report_existence.proofs.Lists.{begins_or_not, bool_or_not, same_or_not, text_or_not}
 
@@ -54,10 +54,10 @@ module _ (setting : Setting) (state : RunState) where
       either_or_not (begins_or_not text_or_not lines (printed_lines setting state))
       (whole_or_not lines (some_ending (EndsWithLines lines) (λ ending. both_or_not (ends_or_not ending) (same_or_not text_or_not lines (printed_lines setting state ++ ending_line ending ∷ [])))))
 
--- A run follows what lines tell
+-- A run follows lines
 
 module _ (setting : Setting) where
-  -- of these choices as many were made as are possible
+  -- as many of these choices as are possible have been made
   HasDone : List Choice → Type 0
   HasDone told = (done : List Choice) × (last : RunState) × (played setting done (beginning_of setting) ≡ Some last) × ((told ≡ done) ⊎ IsStuck setting told done)
 
@@ -88,7 +88,7 @@ module _ (setting : Setting) (is : IsRunnable setting) (text : List ℕ) where
   abbrev Starts : ℕ → Type 0
   Starts count = AreFirstLines setting (take count lines)
 
-  -- no line at all is how each text begins that a run prints
+  -- every text that a run prints begins with the empty list of lines
   starts_at_none : Starts 0
   starts_at_none =
       let e = cases_end setting [] (beginning_of setting) is.sound is.valid is.limit refl in

@@ -1,4 +1,4 @@
--- Bytes hold frames, and after them nothing or a fault.
+-- Bytes are frames, followed by nothing or by a fault.
 use Rattle.std.proofs.Common.{ℕ, zero, suc, ◌+◌, ◌<◌, ◌≤◌, List, [], ◌∷◌, length, drop, take, Some, None, inl, inr, refl, arith, length-drop, le_refl}
 use Rattle.std.proofs.lemmas.List.{length-take-le}
 use Rattle.ipdl_base.specs.declared.message.Message.{Message}
@@ -10,7 +10,7 @@ use Rattle.value_codec.specs.Laws.{AreBytes, SomeBegins}
 use Rattle.value_codec.proofs.Cases.{one_spelling}
 use Rattle.frame_list.specs.declared.list.FrameListFault.TheVariants.{Short, Broken}
 use Rattle.frame_list.specs.Frames.{ends, faults, frame, frame_rule, layout_at, placed_at}
-use Rattle.schema_laws.proofs.OneList.{bytes_behind, cases}
+use Rattle.schema_laws.proofs.OneList.{bytes_after, cases}
 use Rattle.run_existence.specs.Laws.{HasFrames, BytesHaveFrames}
 
 -- a frame has bytes
@@ -30,7 +30,7 @@ module _ (schema : Schema) (sound : IsSound schema) where
       by more (inl (message, n, begins)) =
           let some = some_bytes (layout_at (b ∷ bs)) schema (b ∷ bs) message n begins in
           let less = length-drop n (b ∷ bs) in
-          let rest = more (offset + n) (drop n (b ∷ bs)) (bytes_behind n (b ∷ bs) are) (omega arith) in
+          let rest = more (offset + n) (drop n (b ∷ bs)) (bytes_after n (b ∷ bs) are) (omega arith) in
           (placed_at offset message ∷ rest.0, rest.1, frame offset n (b ∷ bs) message rest.0 rest.1 begins rest.2)
       by more (inr (inl (missing, short))) = ([], Some (Short offset missing), faults offset (b ∷ bs) (Short offset missing) (λ e. cc) (refl, short))
       by more (inr (inr (within, rule, bad))) =

@@ -71,7 +71,7 @@ module _ (schema : Schema) (types : List ℕ) (built : List Bool) where
       by (inl sent) (inl live) = inr (λ protocol is sends. subst (λ q. is_built built q ≡ true) (let same : p ≡ protocol = (let both : Constructor p ≡ Constructor protocol = sym e ∙ is in cc) in same) live)
       by (inr unsent) live = inr (λ protocol is sends. let both : true ≡ false = sym sends ∙ unsent in cc)
 
-  -- some message builds more, or none does
+  -- some message builds more, or no message does
   builds_or_closed : ((row : MessageRow) × IsMessageOf schema.protocols row × Builds types built row) ⊎ ((row : MessageRow) → IsMessageOf schema.protocols row → IsClosedMessage types built row)
   builds_or_closed =
       ⊎_elim
@@ -88,7 +88,7 @@ module _ (schema : Schema) (sound : IsSound schema) (top : ℕ) where
     sound_so : AreSound schema top types built
     live : is_built built top ≡ true
 
-  -- what is known where so much more is
+  -- from what is known so far, with a measure less than `fuel`, all that can be known is found
   abbrev FromHere : ℕ → Type 0
   FromHere fuel = (types : List ℕ) (built : List Bool) → IsSoFar types built → known types + unbuilt built < fuel → HasKnown schema top
 

@@ -5,7 +5,7 @@ use Rattle.ipdl_base.specs.declared.kinds.Side.{Side}
 use Rattle.ipdl_base.specs.declared.kinds.Side.TheVariants as sides
 use Rattle.ipdl_base.specs.Lines.{same_side}
 use Rattle.channel_model.specs.Ends.{end_of, link_to}
-use Rattle.channel_model.specs.Numbers.{other}
+use Rattle.ipdl_base.specs.Sides.{other}
 use Rattle.channel_model.specs.Runs.{RunState}
 use Rattle.schedules.specs.declared.turn.Turn.{Turn}
 use Rattle.script_runs.specs.Endings.{EndsAs}
@@ -22,7 +22,7 @@ use Rattle.script_steps.specs.Progress.{progress_of}
 use Rattle.script_steps.specs.Turns.{Picks, RunEnding, Rests, at_limit, at_rest, exceeds, goes_on, idles, is_quiet_at, leads, led_to, outcome, outcome_by, passes, rests, stops, turn_choice, turn_exceeds, turn_idles, turn_leads, whole_turn, word_ends}
 use Rattle.run_existence.specs.Laws.{IsRunnable, WordsHaveRuns}
 
--- how many events both sides have
+-- the number of events of both sides
 abbrev events : RunState → ℕ
 events state = (progress_of sides.Parent state.lines).events + (progress_of sides.Child state.lines).events
 
@@ -36,13 +36,13 @@ record IsLonger (setting : Setting) (state next : RunState) : Type 0 where
   reached : IsReached setting next
   more : events next ≡ suc (events state)
 
--- what a turn does: it leads on by one event, or does nothing
+-- the result of a turn: one more event, nothing, or a side at its limit
 data TurnCase (setting : Setting) (turn : Turn) (state : RunState) : Type 0 where
   goes : (next : RunState) → outcome setting turn state ≡ leads next → IsLonger setting state next → TurnCase setting turn state
   waits : outcome setting turn state ≡ idles → TurnCase setting turn state
   fails : outcome setting turn state ≡ exceeds → is_within setting turn.side state ≡ false → is_quiet_at setting state turn.side ≡ false → TurnCase setting turn state
 
--- an event of one side is one event of both
+-- an event of one side counts as one event of both together
 one_of_both : (side : Side) → (if same_side side sides.Parent then 1 else 0) + (if same_side side sides.Child then 1 else 0) ≡ 1
 one_of_both sides.Parent = refl
 one_of_both sides.Child = refl
@@ -65,7 +65,7 @@ not_quiet setting turn state choice e =
     (cases_Bool (is_quiet_at setting state turn.side))
 
 module _ (setting : Setting) (is : IsRunnable setting) where
-  -- where a side is spent, it has something to do but as many events as it may have
+  -- where a side is spent, it still has something to do but has had as many events as it may have
   abbrev IsSpentAt : RunState → RunEnding → Type 0
   IsSpentAt state at_rest = Unit {0}
   IsSpentAt state (at_limit side) = (is_within setting side state ≡ false) × (is_quiet_at setting state side ≡ false)

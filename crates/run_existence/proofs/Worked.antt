@@ -9,6 +9,6 @@ use Rattle.run_existence.specs.Laws.{HasFrames}
 empty_file : (schema : Schema) → HasFrames schema 0 []
 empty_file schema = ([], None, ends 0)
 
--- one byte that no mark begins lacks 23 of the 24 of an old header
+-- one byte that is not the beginning of the mark lacks 23 of the 24 bytes of an old header
 one_byte : (schema : Schema) → HasFrames schema 0 (7 ∷ [])
 one_byte schema = ([], Some (Short 0 23), faults 0 (7 ∷ []) (Short 0 23) (λ e. cc) (refl, inl (omega arith, refl)))

@@ -1,4 +1,4 @@
--- What there is of frames, runs, texts of runs and waits, for all of them.
+-- Frames, runs, decided texts and reports of waits exist, for all inputs.
 use Rattle.std.specs.Prelude.{◌≡◌, ◌⊎◌, ◌<◌, ℕ, List, Option, Some, length}
 use Rattle.ipdl_base.specs.declared.schema.Schema.{Schema}
 use Rattle.ipdl_base.specs.Sound.{IsSound}
@@ -17,15 +17,15 @@ use Rattle.value_codec.specs.Laws.{AreBytes}
 use Rattle.wait_report.specs.declared.pair.Pair.{Pair}
 use Rattle.wait_report.specs.Pairs.{IsReport}
 
--- the bytes at an offset hold frames, and after them nothing or a fault
+-- the bytes at an offset are frames, followed by nothing or by a fault
 abbrev pub HasFrames : Schema → ℕ → List ℕ → Type 0
 HasFrames schema offset bytes = (frames : List PlacedMessage) × (fault : Option FrameListFault) × Holds schema offset bytes frames fault
 
--- All bytes hold frames, and after them nothing or a fault.
+-- All bytes are frames, followed by nothing or by a fault.
 abbrev pub BytesHaveFrames : Type 0
 BytesHaveFrames = (schema : Schema) → IsSound schema → (offset : ℕ) (bytes : List ℕ) → AreBytes bytes → HasFrames schema offset bytes
 
--- A word of turns leads from the beginning to a last state, by choices of the run, which ends there.
+-- A word of turns leads from the beginning to a last state, by choices of the run, and the run ends there.
 pub record HasRun (setting : Setting) (word : List Turn) : Type 0 where
   pub last : RunState
   pub ending : RunEnding
@@ -44,8 +44,8 @@ pub record IsRunnable (setting : Setting) : Type 0 where
 abbrev pub WordsHaveRuns : Type 0
 WordsHaveRuns = (setting : Setting) → IsRunnable setting → (word : List Turn) → HasRun setting word
 
--- a text is decided: some number of its first lines, and no more, are first lines of what a run prints; and a run prints all
--- of it, or none does
+-- A text is decided: some number of its first lines, and no greater number, are first lines of what a run prints; and
+-- some run prints all of it, or no run does.
 pub record IsDecidedText (setting : Setting) (text : List ℕ) : Type 0 where
   pub count : ℕ
   pub so_far : AreLegalSoFar setting text count
@@ -55,6 +55,6 @@ pub record IsDecidedText (setting : Setting) (text : List ℕ) : Type 0 where
 abbrev pub TextsAreDecided : Type 0
 TextsAreDecided = (setting : Setting) → IsRunnable setting → (text : List ℕ) → IsDecidedText setting text
 
--- A sound schema has the report of what may interrupt a wait, whichever of its protocols is the top.
+-- A sound schema has a report of what may interrupt a wait, whichever of its protocols is the top.
 abbrev pub WaitReportsExist : Type 0
 WaitReportsExist = (schema : Schema) → IsSound schema → (top : ℕ) → top < length schema.protocols → (pairs : List Pair) × IsReport schema top pairs

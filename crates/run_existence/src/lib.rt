@@ -1,6 +1,6 @@
-//! Laws that what a channel is asked about is there: the frames of all bytes, the run of every word of turns,
-//! how far every text is what a run prints, and the report of waits of every sound schema. No function that
-//! runs.
+//! Laws that what a channel is asked for exists: the frames of all bytes, the run of every word of turns, how
+//! far a run
+//! prints a text, and the report of waits of every sound schema. No function of this crate computes anything.
 #![tactic(auto)]
 
 mod laws;

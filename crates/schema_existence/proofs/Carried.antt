@@ -51,7 +51,7 @@ module _ (types : List TypeRow) where
   abbrev AreSound : List ℕ → Type 0
   AreSound marks = (t : ℕ) → Contains marks t → MentionsUncarried types (Named t)
 
-  -- what ends in marked types that mention one that is not carried mentions one
+  -- a type that ends in marked types that mention one that is not carried mentions one
 
   end_mentions : (marks : List ℕ) → AreSound marks → (s : Shape) → EndsIn marks s → MentionsUncarried types s
   end_mentions marks sound (Builtin b) is = builtin is
@@ -68,7 +68,7 @@ module _ (types : List TypeRow) where
   row_mentions marks sound t (Some (Struct name fields)) at (i, field, below, here, ends) = in_struct name fields field at (i, below, here) (end_mentions marks sound field.shape ends)
   row_mentions marks sound t (Some (Union name components)) at (i, component, below, here, ends) = in_union name components component at (i, below, here) (end_mentions marks sound component ends)
 
-  -- what mentions one that is not carried ends in closed marks
+  -- a type that mentions one that is not carried ends in closed marks
   mentions_end : (marks : List ℕ) → ((t : ℕ) → Contains (numbers_below (length types)) t → Step marks t → Contains marks t) → {s : Shape} → MentionsUncarried types s → EndsIn marks s
   mentions_end marks closed (builtin is) = is
   mentions_end marks closed endpoint = tt
@@ -93,7 +93,7 @@ module _ (types : List TypeRow) where
   some_mention_or_not : (params : List ParamRow) → SomeMention params ⊎ (SomeMention params → ⊥)
   some_mention_or_not params = any_or_not (λ p. MentionsUncarried types p.shape) (λ p. mentions_or_not p.shape) params
 
-  -- whether parameters and returns mention none
+  -- whether parameters and returns mention no uncarried type
   pub carried_flag : (params : List ParamRow) (returns : Option (List ParamRow)) → (flag : Bool) × (IsTrue flag ↔ ¬ (SomeMention params ⊎ IsSomeAnd returns SomeMention))
   carried_flag params returns = elim (either_or_not (some_mention_or_not params) (some_and_or_not returns SomeMention some_mention_or_not)) [
     | inl some ↦ (false, (λ is. absurd (true≢false (sym is)), λ none. absurd (none some)))

@@ -1,4 +1,4 @@
--- What has a key, in the order of keys.
+-- Elements with keys, in the order of the keys.
 use Rattle.report_existence.proofs.Lists.{bool_or_not}
 use Rattle.std.proofs.Common.{◌≡◌, ◌⊎◌, List, Option, Some, IsSome, is_some, refl, sym, ap, ◌∙◌, inl, inr, true, Ordering, Less, Equal, Greater}
 use Rattle.std.specs.Prelude.{◌↔◌}
@@ -31,7 +31,7 @@ module _ {X K : Type 0} (key : X → Option K) (cmp : K × X → K × X → Orde
     trans = λ x y z some middle last one two p r at there. let q = some_of (key y) middle in total.trans (p, x) (q.0, y) (r, z) (one p q.0 at q.1) (two q.0 r q.1 there);
   }
 
-  -- all that have keys, which stand among these, in the order of the keys
+  -- all that have keys, which are among these, in the order of the keys
   pub in_key_order : (xs : List X) → ((x : X) → IsSome (key x) → Contains xs x) → (all : List X) × AllPairs (HasKeyBefore key cmp) all × ((x : X) → Contains all x ↔ IsSome (key x))
   in_key_order xs within =
       let listed = of_list (λ x. IsSome (key x)) (λ x. bool_or_not (is_some (key x)) true) xs within in

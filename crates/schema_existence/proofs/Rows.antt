@@ -35,7 +35,7 @@ use Rattle.schema_existence.proofs.Carried.{carried_flag}
 use Rattle.schema_existence.proofs.Shapes.{IsNumberingOf, number_of_name, type_shape}
 use Rattle.schema_existence.proofs.Types.{struct_there, union_there}
 
--- Where each member has a row, there are rows.
+-- If each member has a row, there are rows.
 
 pub rows_beside : {X Y : Type 0} (R : X → Y → Type 0) (xs : List X) → ((x : X) → Contains xs x → (y : Y) × R x y) → (ys : List Y) × AllZip R xs ys
 rows_beside R [] each = ([], tt)

@@ -29,19 +29,19 @@ pub record IsNumberingOf (program : List Entry) (n : Numbering) : Type 0 where
   pub files : AreProtocolFiles program n.files
   pub types : AreTypes program n.types
 
--- a shape with suffixes round one of which this holds
+-- a shape with suffixes around one with this property
 suffixed : (Holds : Shape → Type 0) (after : List Suffix) (s : Shape) → Holds s → (whole : Shape) × IsSuffixed Holds after whole
 suffixed Holds [] s holds = (s, holds)
 suffixed Holds (Array ∷ rest) s holds = suffixed (IsSuffixedBy Array Holds) rest (shape.Array' one_box s) holds
 suffixed Holds (Maybe ∷ rest) s holds = suffixed (IsSuffixedBy Maybe Holds) rest (shape.Maybe' one_box s) holds
 
--- a name that finds neither nothing nor two finds one
+-- a name that finds neither nothing nor two declarations finds one
 one_found : (program : List Entry) (file : ℕ) (text : List ℕ) (argument : Option (List ℕ)) (r : Found) → Counts (Finds program file text argument) r → FindsSole program file (Named text argument) → (d : DeclId) × FindsOne program file text argument d
 one_found program file text argument found.None counts sole = absurd (sole.0 counts)
 one_found program file text argument (found.One d) counts sole = (d, counts)
 one_found program file text argument (found.Many d e) counts sole = absurd (sole.1 (d, e, counts))
 
--- a name that finds neither no protocol nor two finds one
+-- a name that finds neither no protocol nor two protocols finds one
 one_protocol_found : (program : List Entry) (file : ℕ) (text : List ℕ) (r : Found) → Counts (FindsAsProtocol program file text) r → FindsSoleProtocol program file text → (other : ℕ) × FindsOneProtocol program file text other
 one_protocol_found program file text found.None counts sole = absurd (sole.some counts)
 one_protocol_found program file text (found.One (Protocol other)) counts sole = (other, counts)
@@ -53,7 +53,7 @@ one_protocol_found program file text (found.One (Endpoint other managed)) counts
 one_protocol_found program file text (found.Many d e) counts sole = absurd (sole.one d e counts)
 
 module _ (program : List Entry) (n : Numbering) (numbered : IsNumberingOf program n) where
-  -- what is there has a number
+  -- a declaration that is there has a number
 
   file_number : (file : ℕ) → IsSome (protocol_of program file) → (number : ℕ) × IsProtocolNumber n number file
   file_number file there = place_in n.files file ((numbered.files.exact file).1 there)
@@ -61,7 +61,7 @@ module _ (program : List Entry) (n : Numbering) (numbered : IsNumberingOf progra
   type_number : (d : DeclId) → IsSome (place_of program d) → (number : ℕ) × IsTypeNumber n number d
   type_number d there = place_in n.types d ((numbered.types.exact d).1 there)
 
-  -- what a name finds stands for a shape
+  -- what a name finds has a shape
   decl_shape : (nullable : Bool) (d : DeclId) → IsThere program d → (s : Shape) × IsShapeOfDecl program n nullable d s
   decl_shape nullable (Builtin type) there = (shape.Builtin type, refl)
   decl_shape nullable (Using file index) there = let full = some_of (full_name_of program (Using file index)) there in (shape.Using full.0, full.1)
@@ -70,7 +70,7 @@ module _ (program : List Entry) (n : Numbering) (numbered : IsNumberingOf progra
   decl_shape nullable (Protocol file) there = let number = file_number file there in (shape.Actor number.0 nullable, (number.1, refl))
   decl_shape nullable (Endpoint file managed) there = let number = file_number file there in (shape.Endpoint number.0 managed, (number.1, refl))
 
-  -- so does a base in which each name finds one declaration, and a type
+  -- the same of a base in which each name finds one declaration, and of a type
 
   base_shape : (file : ℕ) (nullable : Bool) (base : Base) → FindsSole program file base → (s : Shape) × IsShapeOfBase program n file nullable base s
   base_shape file nullable (Named text argument) sole =

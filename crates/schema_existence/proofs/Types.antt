@@ -32,7 +32,7 @@ mapped : {X Y : Type 0} (f : X → Y) (o : Option X) (y : Y) → option_map f o 
 mapped f None y is = absurd (none-some y is)
 mapped f (Some x) y is = (x, refl, same_Some (f x) y is)
 
--- the struct or the union of which there is a place
+-- the struct or the union that has a place
 
 pub struct_there : (program : List Entry) (file index : ℕ) → IsSome (place_of program (Struct file index)) → (s : StructDecl) × (struct_of program file index ≡ Some s)
 struct_there program file index some =
@@ -46,7 +46,7 @@ union_there program file index some =
     let u = mapped (λ (u : UnionDecl). u.place) (union_of program file index) p.0 p.1 in
     (u.0, u.1)
 
--- what has a place is declared
+-- a struct or a union that has a place is declared
 declared : (program : List Entry) (d : DeclId) → IsSome (place_of program d) → Contains (decls program) d
 declared program (Struct file index) some =
     let s = struct_there program file index some in

@@ -1,4 +1,4 @@
-//! That each program that breaks no rule has a schema. No function that runs.
+//! The law that each program that breaks no rule has a schema. There is no function that runs.
 #![tactic(auto)]
 
 mod laws;

@@ -1,4 +1,4 @@
--- Neither lists of frames nor their lines look at where the boxes of a schema lie.
+-- Neither lists of frames nor their lines depend on where the boxes of a schema are.
 use Rattle.std.proofs.Common.{◌∙◌, sym}
 use Rattle.frame_list.specs.Converted.{new_frames}
 use Rattle.frame_list.specs.Lines.{frames_lines}

@@ -1,4 +1,4 @@
--- Answers to async requests do not look at where the boxes of a schema lie.
+-- Answers to async requests do not depend on where the boxes of a schema are.
 use Rattle.std.proofs.Common.{◌≡◌, ◌∙◌, Option, Some, None, refl}
 use Rattle.std.specs.Prelude.{not, ◌&&◌, if◌then◌else◌, option_map, option_and_then}
 use Rattle.ipdl_base.specs.declared.kinds.SendRefusal.TheVariants as refusal

@@ -1,4 +1,4 @@
--- What bytes begin does not depend on where the boxes of a schema lie.
+-- What bytes begin with does not depend on where the boxes of a schema are.
 use Rattle.std.proofs.Common.{◌≡◌, ◌∙◌, ◌⊎◌, inl, inr, ℕ, ◌+◌, ◌-◌, ◌==◌, ◌<◌, ◌≤◌, cond, List, length, Option, Some, None, refl, sym, ap, subst}
 use Rattle.std.specs.Prelude.{option_map, if◌then◌else◌, nat_lt}
 use Rattle.ipdl_base.specs.declared.finding.TheConstants.Rule as rule
@@ -7,9 +7,10 @@ use Rattle.ipdl_base.specs.declared.schema.MessageRow.{MessageRow}
 use Rattle.ipdl_base.specs.declared.schema.Schema.{Schema}
 use Rattle.ipdl_base.specs.Sound.{message_of}
 use Rattle.value_types.specs.declared.layout.Layout.{Layout}
-use Rattle.value_codec.specs.declared.decoding.Decoded.TheVariants.{Short}
-use Rattle.value_codec.specs.Decoding.{begins, behind_header, with_contents, whole_size, payload_in, contents_of_type, contents, FrameBegins, IsShort, FrameFault}
-use Rattle.value_codec.specs.Frames.{FrameType, goodbye, request, reply, header_size, header_of, header_fault, has_mark, behind_mark, fields_fault, fault_of_type, goodbye_number, request_or_reply, carried_type, type_of, contents_at}
+use Rattle.value_codec.specs.declared.decoding.DecodeResult.TheVariants.{Short}
+use Rattle.value_codec.specs.Decoding.{begins, after_header, with_contents, whole_size, payload_in, contents_of_type, contents, FrameBegins, IsShort, FrameFault}
+use Rattle.ipdl_base.specs.Sides.{goodbye_number}
+use Rattle.value_codec.specs.Frames.{FrameType, goodbye, request, reply, header_size, header_of, header_fault, has_mark, after_mark, fields_fault, fault_of_type, request_or_reply, carried_type, type_of, contents_at}
 use Rattle.value_codec.specs.Reading.{value_at}
 use Rattle.value_codec.specs.Spelling.{reply_flags}
 use Rattle.program_schema.specs.Laws.{plain_message_row, plain_schema}
@@ -55,7 +56,7 @@ fields_alike layout s header =
     (ap (fault_of_type header) (frame_type_alike s header.number) ∙ fault_alike header (type_of s header.number))
 
 header_alike : (layout : Layout) (s : Schema) (bytes : List ℕ) → header_fault layout (plain_schema s) bytes ≡ header_fault layout s bytes
-header_alike layout s bytes = λ i. if has_mark layout bytes then behind_mark layout (fields_alike layout s (header_of layout bytes) i) else Some (0, (rule.BAD_MARK).number)
+header_alike layout s bytes = λ i. if has_mark layout bytes then after_mark layout (fields_alike layout s (header_of layout bytes) i) else Some (0, (rule.BAD_MARK).number)
 
 -- Payloads
 
@@ -78,19 +79,19 @@ contents_alike layout s bytes =
     (λ i. contents_of_type layout (plain_schema s) (header_of layout bytes) (frame_type_alike s (header_of layout bytes).number i) (payload_in layout (header_of layout bytes) bytes))
     ∙ contents_of layout s (header_of layout bytes) (type_of s (header_of layout bytes).number) (payload_in layout (header_of layout bytes) bytes)
 
--- What stands there
+-- What is there
 
-behind_alike : (layout : Layout) (s : Schema) (bytes : List ℕ) (fault : Option (ℕ × ℕ)) → behind_header layout (plain_schema s) bytes fault ≡ behind_header layout s bytes fault
-behind_alike layout s bytes None = λ i.
+after_alike : (layout : Layout) (s : Schema) (bytes : List ℕ) (fault : Option (ℕ × ℕ)) → after_header layout (plain_schema s) bytes fault ≡ after_header layout s bytes fault
+after_alike layout s bytes None = λ i.
     if nat_lt (length bytes) (whole_size layout (header_of layout bytes)) then Short (whole_size layout (header_of layout bytes) - length bytes) else
     with_contents layout (header_of layout bytes) (contents_alike layout s bytes i)
-behind_alike layout s bytes (Some fault) = refl
+after_alike layout s bytes (Some fault) = refl
 
 pub decoded_alike : (layout : Layout) (s : Schema) (bytes : List ℕ) → begins layout (plain_schema s) bytes ≡ begins layout s bytes
 unfolding begins
 decoded_alike layout s bytes =
-    (λ i. if nat_lt (length bytes) (header_size layout) then Short (header_size layout - length bytes) else behind_header layout (plain_schema s) bytes (header_alike layout s bytes i))
-    ∙ (λ i. if nat_lt (length bytes) (header_size layout) then Short (header_size layout - length bytes) else behind_alike layout s bytes (header_fault layout s bytes) i)
+    (λ i. if nat_lt (length bytes) (header_size layout) then Short (header_size layout - length bytes) else after_header layout (plain_schema s) bytes (header_alike layout s bytes i))
+    ∙ (λ i. if nat_lt (length bytes) (header_size layout) then Short (header_size layout - length bytes) else after_alike layout s bytes (header_fault layout s bytes) i)
 
 -- Frames
 

@@ -1,4 +1,4 @@
--- The blocks of a text under a schema whose boxes lie elsewhere.
+-- The blocks of a text under a schema whose boxes are elsewhere.
 use Rattle.std.proofs.Common.{◌≡◌, ◌∙◌, List, [], ◌∷◌, ◌++◌, Some, refl, unwrap_or}
 use Rattle.std.specs.List.{filter_map}
 use Rattle.std.specs.Option.{option_map_or}

@@ -1,4 +1,4 @@
--- The rules that a text breaks under a schema whose boxes lie elsewhere.
+-- The rules that a text breaks under a schema whose boxes are elsewhere.
 use Rattle.std.proofs.Common.{◌≡◌, ◌≢◌, ◌∙◌, ℕ, ◌+◌, List, [], take, drop, Bool, false, Option, None, Some, ◌⊎◌, inl, inr, refl}
 use Rattle.std.specs.Prelude.{IsTrue, IsSome, IsNone, IsSomeAnd, slice_get, option_map}
 use Rattle.std.specs.List.{list_any}
@@ -22,11 +22,12 @@ use Rattle.script_reader.specs.declared.written.WrittenValues.{WrittenValues}
 use Rattle.handler_script.specs.Blocks.{answers, statements, IsFollowed, BlockContext, in_main, in_handler, standing_of, side_of, given_in}
 use Rattle.handler_script.specs.Broken.{NamesNone, sent, is_misdirected, IsMissent, is_uncarried, IsUnsent, is_no_actor, types_by, AreUnfit, ValuesBreak, is_unknown, IsMisplaced, IsNotAllowed, OpeningBreaks, BlockBreaks, StatementBreaks, LineBreaks, HasManager, IsBroken}
 use Rattle.handler_script.specs.Mentions.{values_of, who_of, message_of, speaks_of}
-use Rattle.handler_script.specs.Messages.{named, sends, resolves, is_constructor}
+use Rattle.ipdl_base.specs.Sides.{sends}
+use Rattle.handler_script.specs.Messages.{named, resolves, is_constructor}
 use Rattle.schema_laws.proofs.FitsAlike.{no_actor_alike, unfit_alike}
 use Rattle.schema_laws.proofs.NamedAlike.{plain_context, resolved_alike, side_alike, given_alike, resolves_in_alike, replies_in_alike, types_by_alike, statement_alike, standing_alike}
 
--- What is told of a block, and of a message
+-- What is given of a block, and of a message
 
 misdirected_alike : (o : Option BlockContext) → is_misdirected (option_map plain_context o) ≡ is_misdirected o
 misdirected_alike None = refl

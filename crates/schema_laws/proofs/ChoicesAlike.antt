@@ -1,4 +1,4 @@
--- Choices do not look at where boxes lie.
+-- Choices do not depend on where boxes are.
 use Rattle.std.proofs.Common.{◌≡◌, List, [], ◌∷◌, None, Some, refl}
 use Rattle.std.specs.Prelude.{not, ◌&&◌, is_some, if◌then◌else◌, option_and_then}
 use Rattle.ipdl_base.specs.declared.kinds.Side.{Side}
@@ -9,7 +9,7 @@ use Rattle.script_steps.specs.Choices.{Setting, Choice, chosen, is_doable, may_d
 use Rattle.script_steps.specs.Turns.{is_quiet_at}
 use Rattle.schema_laws.specs.Runs.{AreSettingsAlike, ChoicesAlike}
 use Rattle.schema_laws.proofs.EventsAlike.{events_alike}
-use Rattle.schema_laws.proofs.PicksAlike.{beginning_alike, behind_alike, event_alike, within_alike}
+use Rattle.schema_laws.proofs.PicksAlike.{beginning_alike, after_alike, event_alike, within_alike}
 use Rattle.schema_laws.proofs.StepsAlike.{steps_alike}
 
 module _ (a b : Setting) (alike : AreSettingsAlike a b) where
@@ -18,7 +18,7 @@ module _ (a b : Setting) (alike : AreSettingsAlike a b) where
 
   chosen_alike : (choice : Choice) (state : RunState) → chosen a choice state ≡ chosen b choice state
   chosen_alike choice state = λ i.
-      if within_alike a b alike choice.side state i then option_and_then (λ (what : Event). if doable_alike choice.side state what i then Some (behind_alike a b alike choice.side state what i) else None) (event_alike a b alike choice state i) else None
+      if within_alike a b alike choice.side state i then option_and_then (λ (what : Event). if doable_alike choice.side state what i then Some (after_alike a b alike choice.side state what i) else None) (event_alike a b alike choice state i) else None
 
   played_alike : (choices : List Choice) (state : RunState) → played a choices state ≡ played b choices state
   played_alike [] state = refl

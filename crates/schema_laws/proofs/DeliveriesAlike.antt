@@ -1,4 +1,4 @@
--- Deliveries do not look at where the boxes of a schema lie.
+-- Deliveries do not depend on where the boxes of a schema are.
 use Rattle.std.proofs.Common.{◌≡◌, ◌∙◌, Option, Some, None, refl}
 use Rattle.std.specs.Option.{option_map_or}
 use Rattle.ipdl_base.specs.declared.kinds.Reason.TheVariants.{ResolverDestroyed}
@@ -29,7 +29,7 @@ arrives_alike : (m : Message) (row : MessageRow) → request_arrives m (plain_me
 arrives_alike m row = λ i. λ output. (on_end (counted row (item_of row m)) ▷ replacing_alike row (replaced row.compress (item_of row m) output.end.arrived) i) output
 
 module _ (s : Schema) where
-  -- what is done by the row of a message is the same where it is by each row
+  -- what is done by the row of a message is the same if it is the same for each row
   pub by_row_alike : (m : Message) (f g : MessageRow → Change) → ((row : MessageRow) → f (plain_message_row row) ≡ g row) → (otherwise : Change) → by_row (plain_schema s) m f otherwise ≡ by_row s m g otherwise
   by_row_alike m f g same otherwise = (λ i. option_map_or f (message_alike s m.number i) otherwise) ∙ option_alike plain_message_row f g same otherwise (message_of s m.number)
 

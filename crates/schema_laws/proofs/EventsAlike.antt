@@ -1,4 +1,4 @@
--- What an end does next does not look at where the boxes of a script lie.
+-- What an end does next does not depend on where the boxes of a script are.
 use Rattle.std.proofs.Common.{◌≡◌, ◌∙◌, ℕ, ◌-◌, List, [], ◌∷◌, length, map, Bool, true, false, cond, Option, None, Some, refl, sym, ap}
 use Rattle.std.specs.Prelude.{min, filter, slice_get, if◌then◌else◌, option_map, option_and_then}
 use Rattle.std.specs.Option.{option_map_or}
@@ -28,7 +28,7 @@ use Rattle.script_steps.specs.Progress.{HandledRequest, Progress, progress_of}
 use Rattle.schema_laws.specs.Runs.{EventsAlike}
 use Rattle.schema_laws.proofs.TermsAlike.{values_alike, event_alike}
 
--- what a value in an option gives is the same where it is of each value
+-- the result for an option is the same if it is the same for each value
 mapped_alike : {X Y : Type 0} (look : X → X) (f : X → Y) → ((x : X) → f (look x) ≡ f x) → (o : Option X) → option_map f (option_map look o) ≡ option_map f o
 mapped_alike look f same None = refl
 mapped_alike look f same (Some x) = λ i. Some (same x i)

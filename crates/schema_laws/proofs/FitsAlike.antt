@@ -1,4 +1,4 @@
--- Whether written values fit, and the terms that they stand for, do not look at where the boxes of types lie.
+-- Whether written values fit, and the terms of these values, do not depend on where the boxes of types are.
 use Rattle.std.proofs.Common.{◌≡◌, ◌∙◌, ℕ, zero, suc, ◌*◌, List, [], ◌∷◌, length, map, pos, true, not, Option, None, Some, ◌⊎◌, refl, unwrap_or}
 use Rattle.std.specs.Prelude.{◌≤ℤ◌, IsTrue, IsSome, IsSomeAnd, is_some, option_map, option_and_then}
 use Rattle.std.specs.Option.{option_map_or}
@@ -31,7 +31,7 @@ use Rattle.handler_script.specs.Terms.{param_at, is_actor, StandsFor, WhoFits, A
 
 -- Types and parameters
 
--- a type whose boxes are at one place is not changed any more
+-- a type whose boxes are at one place does not change any more
 twice : (shape : Shape) → plain_shape (plain_shape shape) ≡ plain_shape shape
 twice (Builtin b) = refl
 twice (Using name) = refl

@@ -1,4 +1,4 @@
--- Which frames bytes hold does not depend on where the boxes of a schema lie.
+-- The frames in bytes do not depend on where the boxes of a schema are.
 use Rattle.std.proofs.Common.{◌≡◌, ℕ, ◌+◌, List, drop, Option, subst}
 use Rattle.std.proofs.Math.Path.{transport, transport⁻¹}
 use Rattle.ipdl_base.specs.declared.schema.Schema.{Schema}

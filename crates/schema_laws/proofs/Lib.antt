@@ -21,6 +21,7 @@ pub mod StepsAlike
 pub mod EventsAlike
 pub mod PicksAlike
 pub mod ChoicesAlike
+mod HalvesAlike
 pub mod FeedsAlike
 pub mod RelaysAlike
 pub mod TextsAlike

@@ -1,4 +1,4 @@
--- The lines of frames do not look at where the boxes of a schema lie.
+-- The lines of frames do not depend on where the boxes of a schema are.
 use Rattle.std.proofs.Common.{◌≡◌, ◌∙◌, ℕ, ◌/◌, List, [], ◌∷◌, ◌++◌, map, Option, Some, None, refl, codes, unwrap_or}
 use Rattle.std.specs.Prelude.{option_map, slice_get}
 use Rattle.std.specs.Fmt.{decimal}
@@ -34,7 +34,7 @@ use Rattle.schema_laws.proofs.Rows.{option_alike, listed_alike, message_alike, f
 bits_alike : (shape : Shape) (bits : ℕ) → bits_text (plain_shape shape) bits ≡ bits_text shape bits
 bits_alike shape bits = λ i. codes "h\"" ++ hex_digits (digit_count_of (builtin_of-plain shape i)) bits ++ codes "\""
 
--- what a message gives back, and none where it gives nothing
+-- the returns of a message, or an empty list if it has none
 pub returned : (returns : Option (List ParamRow)) → option_map_or (λ rows. rows) (option_map (map plain_param_row) returns) [] ≡ map plain_param_row (option_map_or (λ rows. rows) returns [])
 returned None = refl
 returned (Some rows) = refl
@@ -91,7 +91,7 @@ module _ (s : Schema) where
   addressed_alike : (word : List ℕ) (m : Message) → addressed (plain_schema s) word m ≡ addressed s word m
   addressed_alike word m = λ i. numbered word m.seq ++ numbered (codes "/") m.transaction ++ (numbered (codes " to ") m.route ++ codes " " ++ text_alike m.number i)
 
-  -- what an option of a row gives, as a list with every box at one place
+  -- the result for an optional row, as a list with every box at one place
   rows_alike : (f g : MessageRow → List ParamRow) → ((row : MessageRow) → f (plain_message_row row) ≡ map plain_param_row (g row)) → (o : Option MessageRow) → option_map_or f (option_map plain_message_row o) [] ≡ map plain_param_row (option_map_or g o [])
   rows_alike f g same None = refl
   rows_alike f g same (Some row) = same row

@@ -1,4 +1,4 @@
--- The messages that a script names, and the blocks of a script, under a schema whose boxes lie elsewhere.
+-- The messages that a script names, and the blocks of a script, under a schema whose boxes are elsewhere.
 use Rattle.std.proofs.Common.{◌≡◌, ◌∙◌, ℕ, List, map, Option, None, Some, refl}
 use Rattle.std.specs.Prelude.{is_some, option_map, option_and_then}
 use Rattle.std.specs.Option.{option_map_or}
@@ -27,7 +27,7 @@ abbrev pub plain_context : BlockContext → BlockContext
 plain_context (in_main side) = in_main side
 plain_context (in_handler side message) = in_handler side (plain_message_row message)
 
--- what a value in an option gives is the same where it is of each value
+-- the result for an option is the same if it is the same for each value
 mapped : {X Y : Type 0} (look : X → X) (f : X → Y) (after : Y → Y) → ((x : X) → f (look x) ≡ after (f x)) → (o : Option X) → option_map f (option_map look o) ≡ option_map after (option_map f o)
 mapped look f after same None = refl
 mapped look f after same (Some x) = λ i. Some (same x i)
@@ -80,7 +80,7 @@ pub replies_in_alike : (b : BlockContext) → is_some (option_and_then replies (
 replies_in_alike (in_main side) = refl
 replies_in_alike (in_handler side message) = replied_alike message
 
--- the types that values are to fit, where a statement names this message
+-- the types that values must fit, where a statement names this message
 pub types_by_alike : (message : Option MessageRow) (b : BlockContext) (st : Statement) → types_by (option_map plain_message_row message) (plain_context b) st ≡ option_map (map plain_param_row) (types_by message b st)
 types_by_alike message b (forms.Send w c) = mapped plain_message_row (λ message. message.params) (map plain_param_row) (λ message. refl) message
 types_by_alike message b (forms.New n w c) = mapped plain_message_row (λ message. message.params) (map plain_param_row) (λ message. refl) message

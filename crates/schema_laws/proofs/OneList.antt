@@ -1,4 +1,4 @@
--- Bytes hold one list of frames.
+-- Bytes are one list of frames.
 use Rattle.std.proofs.Common.{◌≡◌, ◌∙◌, ℕ, zero, suc, ◌+◌, Bool, true, false, List, [], ◌∷◌, drop, take, Option, Some, inl, refl, sym, ap, subst, arith}
 use Rattle.std.specs.Prelude.{if◌then◌else◌}
 use Rattle.std.specs.Str.{bytes_eq}
@@ -16,10 +16,10 @@ use Rattle.frame_list.specs.declared.list.PlacedMessage.{PlacedMessage}
 use Rattle.frame_list.specs.Frames.{Holds, ends, faults, frame, IsFault, layout_at, frame_rule, placed_at, all_plain}
 use Rattle.schema_laws.specs.Frames.{OneListOfFrames}
 
-pub bytes_behind : (n : ℕ) (bytes : List ℕ) → AreBytes bytes → AreBytes (drop n bytes)
-bytes_behind zero bytes are = are
-bytes_behind (suc n) [] are = are
-bytes_behind (suc n) (b ∷ bytes) are = bytes_behind n bytes (λ i. are (suc i))
+pub bytes_after : (n : ℕ) (bytes : List ℕ) → AreBytes bytes → AreBytes (drop n bytes)
+bytes_after zero bytes are = are
+bytes_after (suc n) [] are = are
+bytes_after (suc n) (b ∷ bytes) are = bytes_after n bytes (λ i. are (suc i))
 
 pub lengths : (marked : Bool) → HasLengths (if marked then NEW else OLD)
 lengths true = omega arith
@@ -58,8 +58,8 @@ module _ (s : Schema) (sound : IsSound s) where
   one_list _ _ _ _ (frame offset n bytes m more fault begins rest) are _ _ (frame _ n' _ m' more' other begins' rest') =
       let same = (cases bytes are).one_frame m m' n n' begins begins' in
       let further : Holds s (offset + n) (drop n bytes) more' other = subst (λ k. Holds s (offset + k) (drop k bytes) more' other) (sym same.1) rest' in
-      let behind = one_list (offset + n) (drop n bytes) more fault rest (bytes_behind n bytes are) more' other further in
-      ((λ i. placed_at offset (same.0 i) ∷ behind.0 i), behind.1)
+      let following = one_list (offset + n) (drop n bytes) more fault rest (bytes_after n bytes are) more' other further in
+      ((λ i. placed_at offset (same.0 i) ∷ following.0 i), following.1)
 
 pub one_list_of_frames : OneListOfFrames
 one_list_of_frames s sound offset bytes are frames others fault other h k = one_list s sound offset bytes frames fault h are others other k

@@ -1,4 +1,4 @@
--- What is told of bytes is one.
+-- There is one text of the frames in bytes.
 use Rattle.std.proofs.Common.{◌∙◌, sym, ap}
 use Rattle.value_types.specs.Laws.{BoxesSayNothing}
 use Rattle.frame_list.specs.Converted.{new_frames}

@@ -1,4 +1,4 @@
--- Words of turns do not look at where boxes lie.
+-- Words of turns do not depend on where boxes are.
 use Rattle.std.proofs.Common.{◌≡◌, ◌∙◌, ℕ, List, [], ◌++◌, false, Option, None, Some, refl, sym, subst}
 use Rattle.std.specs.Prelude.{nat_lt, not, ◌&&◌, is_some, if◌then◌else◌}
 use Rattle.std.specs.Option.{option_map_or}
@@ -7,10 +7,10 @@ use Rattle.ipdl_base.specs.declared.kinds.Side.TheVariants as sides
 use Rattle.channel_model.specs.Ends.{World, end_of, link_to, opening}
 use Rattle.channel_model.specs.Events.{Event, Move}
 use Rattle.channel_model.specs.Events as event
-use Rattle.channel_model.specs.Numbers.{other}
+use Rattle.ipdl_base.specs.Sides.{other}
 use Rattle.channel_model.specs.Runs.{RunState, passed_by, happens}
 use Rattle.schedules.specs.declared.turn.Turn.{Turn}
-use Rattle.script_steps.specs.Choices.{Setting, Choice, beginning_of, may_deliver, is_within, event_by, behind_event}
+use Rattle.script_steps.specs.Choices.{Setting, Choice, beginning_of, may_deliver, is_within, event_by, following_event}
 use Rattle.script_steps.specs.Progress.{progress_of}
 use Rattle.script_steps.specs.Turns.{leads, exceeds, delivery_choice, turn_choice, led_to, outcome_by, outcome, RunEnding, whole_turn, Rests, rests, goes_on, passes, stops, Picks, word_ends, turn_leads, turn_idles, turn_exceeds}
 use Rattle.schema_laws.specs.Runs.{AreSettingsAlike, PicksAlike}
@@ -29,13 +29,13 @@ module _ (a b : Setting) (alike : AreSettingsAlike a b) where
   happens_alike : (world : World) (move : Move) → happens a.schema world move ≡ happens b.schema world move
   happens_alike world move = λ i. passed_by (steps_alike a.schema b.schema alike.schemas (end_of move.side world) (link_to move.side world) move.event i) move world
 
-  pub behind_alike : (side : Side) (state : RunState) (what : Event) → behind_event a side state what ≡ behind_event b side state what
-  behind_alike side state what = λ i.
+  pub after_alike : (side : Side) (state : RunState) (what : Event) → following_event a side state what ≡ following_event b side state what
+  after_alike side state what = λ i.
       let next : RunState = happens_alike state.world (record { side = side; event = what }) i in
       record { world = next.world; lines = state.lines ++ next.lines }
 
   led_alike : (choice : Choice) (state : RunState) → led_to a choice state ≡ led_to b choice state
-  led_alike choice state = λ i. option_map_or (λ what. behind_alike choice.side state what i) (event_alike choice state i) state
+  led_alike choice state = λ i. option_map_or (λ what. after_alike choice.side state what i) (event_alike choice state i) state
 
   choice_alike : (turn : Turn) (state : RunState) → turn_choice a turn state ≡ turn_choice b turn state
   choice_alike turn state = λ i.

@@ -1,4 +1,4 @@
--- Reading values and payloads does not look at where the boxes of a schema lie.
+-- Reading values and payloads does not depend on where the boxes of a schema are.
 use Rattle.std.proofs.Common.{◌≡◌, ◌∙◌, ℕ, zero, suc, pos, Bool, true, false, List, [], ◌∷◌, map, Option, Some, None, refl, unwrap_or}
 use Rattle.std.specs.Prelude.{slice_get, option_map, Ok}
 use Rattle.std.proofs.lemmas.Option.{slice_get-map}

@@ -1,4 +1,4 @@
--- Handlers that return, and calls that go on, do not look at where the boxes of a schema lie.
+-- Handlers that return, and calls that continue, do not depend on where the boxes of a schema are.
 use Rattle.std.proofs.Common.{◌≡◌, map, Option, Some, None, refl}
 use Rattle.std.specs.Prelude.{◌&&◌, ◌||◌, if◌then◌else◌, is_none}
 use Rattle.ipdl_base.specs.declared.kinds.Reason.TheVariants.{HandlerRejected}

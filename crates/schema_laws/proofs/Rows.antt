@@ -1,4 +1,4 @@
--- What a schema says of messages and of types, with every box at one place.
+-- The messages and the types of a schema, with every box at one place.
 use Rattle.std.proofs.Common.{◌≡◌, ◌∙◌, ℕ, ◌+◌, ◌==◌, List, [], ◌∷◌, ◌++◌, Bool, true, false, cond, map, Option, Some, None, refl, sym, ap}
 use Rattle.std.specs.Prelude.{slice_get, option_map, option_and_then, unwrap_or, is_some, ◌&&◌, ◌||◌}
 use Rattle.std.specs.List.{find, flat_map}
@@ -16,14 +16,14 @@ use Rattle.ipdl_base.specs.declared.schema.TypeRow.TheVariants.{Struct, Union}
 use Rattle.value_types.specs.Shapes.{row_of, fields_in, fields_of, component_in, component_of}
 use Rattle.program_schema.specs.Laws.{plain_param_row, plain_message_row, plain_protocol_row, plain_type_row, plain_schema}
 
--- Options whose values were changed by a look
+-- Options whose values are mapped
 
--- what is under a value that a look gave
+-- the value from which a mapped option was made
 pub under : {X Y : Type 0} (look : X → Y) (o : Option X) (y : Y) → option_map look o ≡ Some y → (x : X) × (o ≡ Some x) × (look x ≡ y)
 under look None y e = absurd (let no : ⊥ = cc in no)
 under look (Some x) y e = (x, refl, let same : look x ≡ y = cc in same)
 
--- what two functions give of them is the same where it is of each value
+-- what two functions give of an option is the same if it is the same of each value
 pub option_alike : {X Y : Type 0} (look : X → X) (f g : X → Y) → ((x : X) → f (look x) ≡ g x) → (d : Y) (o : Option X) → option_map_or f (option_map look o) d ≡ option_map_or g o d
 option_alike look f g same d None = refl
 option_alike look f g same d (Some x) = same x

@@ -1,4 +1,4 @@
--- What the rows of messages say, whose parameters and returns have their boxes elsewhere.
+-- The rows of messages, where their parameters and returns have their boxes elsewhere.
 use Rattle.std.proofs.Common.{◌≡◌, ◌∙◌, ℕ, map, Bool, true, false, Option, Some, None, refl}
 use Rattle.std.specs.Prelude.{◌==◌, ◌&&◌, not, is_none, if◌then◌else◌, option_map, option_and_then}
 use Rattle.ipdl_base.specs.Signatures.{returns_of_row}
@@ -10,7 +10,7 @@ use Rattle.schema_laws.proofs.LinesAlike.{returned}
 use Rattle.schema_laws.proofs.Rows.{message_alike, still_there, then_alike}
 use Rattle.channel_model.specs.Numbers.{is_sync_row, makes_promise, request_row}
 
--- what follows from a value in an option is the same where it is of each value
+-- the result for an option is the same if it is the same for each value
 pub then_same : {X Y : Type 0} (look : X → X) (f g : X → Option Y) → ((x : X) → f (look x) ≡ g x) → (o : Option X) → option_and_then f (option_map look o) ≡ option_and_then g o
 then_same look f g same None = refl
 then_same look f g same (Some x) = same x
@@ -19,7 +19,7 @@ pub still_none : {X Y : Type 0} (f : X → Y) (o : Option X) → is_none (option
 still_none f None = refl
 still_none f (Some x) = refl
 
--- a row that is there under a condition
+-- a row that exists under a condition
 pub row_where : (b : Bool) (row : MessageRow) → (if b then Some (plain_message_row row) else None) ≡ option_map plain_message_row (if b then Some row else None)
 row_where true row = refl
 row_where false row = refl

@@ -1,4 +1,4 @@
--- A text has the same answer under schemas that are the same up to where their boxes lie.
+-- A text has the same answer under schemas that are the same except for where their boxes are.
 use Rattle.std.proofs.Common.{◌≡◌, ◌∙◌, ℕ, List, sym, ap, subst}
 use Rattle.ipdl_base.specs.declared.finding.Finding.{Finding}
 use Rattle.ipdl_base.specs.declared.schema.Schema.{Schema}
@@ -20,7 +20,7 @@ module _ (a b : Schema) (alike : AreSchemasAlike a b) (top : ℕ) where
   blocks_too : (readings : List LineReading) → blocks_of a readings ≡ blocks_of b readings
   blocks_too readings = sym (blocks_alike a readings) ∙ (λ i. blocks_of (alike i) readings) ∙ blocks_alike b readings
 
--- what is a script or a report under the one schema is one under the other
+-- a script or a report under one schema is a script or a report under the other
 module _ (a b : Schema) (alike : AreSchemasAlike a b) (text : List ℕ) (top : ℕ) where
   script_too : (script : Script) → IsScriptOf text a top script → IsScriptOf text b top script
   script_too script is = record {

@@ -1,4 +1,4 @@
--- Sends do not look at where the boxes of a schema lie.
+-- Sends do not depend on where the boxes of a schema are.
 use Rattle.std.proofs.Common.{◌≡◌, ◌∙◌, ℕ, ◌+◌, List, [], ◌∷◌, ◌++◌, Option, Some, None, refl}
 use Rattle.std.specs.Prelude.{ℤ, nat_lt, not, ◌&&◌, ◌||◌, if◌then◌else◌, is_none, is_some}
 use Rattle.ipdl_base.specs.declared.kinds.SendRefusal.{SendRefusal}
@@ -13,14 +13,15 @@ use Rattle.program_schema.specs.Laws.{plain_message_row, plain_schema}
 use Rattle.schema_laws.proofs.Spelled.{size_alike}
 use Rattle.channel_model.specs.Ends.{End}
 use Rattle.channel_model.specs.Falls.{deletes}
-use Rattle.channel_model.specs.Numbers.{protocol_of, sends, is_sync_row, is_constructor, counting}
+use Rattle.ipdl_base.specs.Sides.{sends}
+use Rattle.channel_model.specs.Numbers.{protocol_of, is_sync_row, is_constructor, counting}
 use Rattle.channel_model.specs.Outputs.{◌▷◌, when, on_end, line, is_open}
 use Rattle.channel_model.specs.Sends.{may_act, request_of, is_too_large, may_send, stack_refusal, value_refusal, send_value_refusal, send_refusal, send_line, posted, wait_for, awaits_reply, constructs, names_actor, sent, sent_unless, send}
 use Rattle.channel_model.specs.ValueActors.{lives_as}
 use Rattle.schema_laws.proofs.RowsAlike.{promise_alike}
 use Rattle.schema_laws.proofs.ValuesAlike.{each_typed, dead_alike}
 
--- What a request leaves behind
+-- What a request adds at its sender
 
 awaits_alike : (row : MessageRow) (m : Message) → awaits_reply (plain_message_row row) m ≡ awaits_reply row m
 awaits_alike row m = λ i.

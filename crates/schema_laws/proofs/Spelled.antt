@@ -1,4 +1,4 @@
--- The spelling of messages does not look at where the boxes of a schema lie.
+-- The spelling of messages does not depend on where the boxes of a schema are.
 use Rattle.std.proofs.Common.{◌≡◌, ◌∙◌, ℕ, ℤ, List, [], ◌∷◌, ◌++◌, length, map, Option, refl, sym, ap}
 use Rattle.std.specs.Prelude.{option_map, unwrap_or}
 use Rattle.std.specs.Option.{option_map_or}

@@ -1,4 +1,4 @@
--- No step of an end looks at where the boxes of a schema lie.
+-- No step of an end depends on where the boxes of a schema are.
 use Rattle.std.proofs.Common.{◌≡◌, ◌∙◌, ℕ, ℤ, List, true, Option, refl, sym}
 use Rattle.std.specs.Prelude.{option_and_then}
 use Rattle.ipdl_base.specs.declared.schema.MessageRow.{MessageRow}
@@ -24,7 +24,7 @@ use Rattle.schema_laws.proofs.SendsAlike.{may_send_alike, send_alike}
 use Rattle.schema_laws.proofs.TakesAlike.{take_alike}
 
 module _ (s : Schema) (e : End) where
-  -- what a request's row makes of a step is the same where each row makes the same of it
+  -- a step by the row of a request is the same if it is the same for each row
   by_request : (n : ℕ) (f g : MessageRow → Option Output) → ((row : MessageRow) → f (plain_message_row row) ≡ g row) → option_and_then f (request_row (plain_schema s) n) ≡ option_and_then g (request_row s n)
   by_request n f g same = (λ i. option_and_then f (request_alike s n i)) ∙ then_same plain_message_row f g same (request_row s n)
 

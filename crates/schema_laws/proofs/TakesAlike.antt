@@ -1,4 +1,4 @@
--- Takes do not look at where the boxes of a schema lie.
+-- Takes do not depend on where the boxes of a schema are.
 use Rattle.std.proofs.Common.{◌≡◌, ◌∙◌, ℤ, ◌∷◌, Option, Some, None, refl}
 use Rattle.std.specs.Prelude.{◌||◌, if◌then◌else◌}
 use Rattle.ipdl_base.specs.declared.kinds.Reason.TheVariants.{ActorDestroyed}
@@ -13,19 +13,19 @@ use Rattle.nesting_core.specs.declared.frame.Answer.{Answer}
 use Rattle.nesting_core.specs.declared.frame.Answer.TheVariants as answer
 use Rattle.pending_queue.specs.declared.item.Item.{Item}
 use Rattle.pending_queue.specs.declared.item.Item.TheVariants as item
-use Rattle.pending_queue.specs.Holding.{is_free, without_first}
+use Rattle.pending_queue.specs.DeferralContext.{is_free, without_first}
 use Rattle.program_schema.specs.Laws.{plain_message_row, plain_schema}
 use Rattle.channel_model.specs.Ends.{End}
 use Rattle.channel_model.specs.Numbers.{protocol_of, is_sync_row}
 use Rattle.channel_model.specs.Outputs.{◌▷◌, unchanged, when, on_end, line, answered, request_answered}
 use Rattle.channel_model.specs.Sends.{constructs}
-use Rattle.channel_model.specs.Takes.{holding_of, outcome_of, is_awaited, settles, reply_taken, dropped_for, dropped, dispatch_of, handled, dropped_or_handled, request_taken, body_taken, item_taken, take}
+use Rattle.channel_model.specs.Takes.{deferral_context_of, outcome_of, is_awaited, settles, reply_taken, dropped_for, dropped, dispatch_of, handled, dropped_or_handled, request_taken, body_taken, item_taken, take}
 use Rattle.channel_model.specs.ValueActors.{lives_as, nulled}
 use Rattle.schema_laws.proofs.DeliveriesAlike.{by_row_alike}
 use Rattle.schema_laws.proofs.RowsAlike.{promise_alike}
 use Rattle.schema_laws.proofs.ValuesAlike.{missing_alike, nulled_parts, received_alike}
 
--- What a request does that is handled or dropped
+-- What a request that is handled or dropped does
 
 dropped_alike : (row : MessageRow) (m : Message) (id : ℤ) → dropped (plain_message_row row) m id ≡ dropped row m id
 dropped_alike row m id = λ i. line (what.Drop m.seq m.route m.number id) ▷ when (is_sync_row row || promise_alike row i) (answered (request_answered m) (answer.Fault ActorDestroyed))
@@ -63,4 +63,4 @@ module _ (s : Schema) where
   item_alike item.Broken = refl
 
   pub take_alike : (taken : Item) → take (plain_schema s) taken ≡ take s taken
-  take_alike taken = λ i. on_end (λ e. record e { arrived = without_first (is_free (holding_of e)) e.arrived }) ▷ item_alike taken i
+  take_alike taken = λ i. on_end (λ e. record e { arrived = without_first (is_free (deferral_context_of e)) e.arrived }) ▷ item_alike taken i

@@ -1,4 +1,4 @@
--- What terms and actions stand for, whose boxes lie elsewhere.
+-- The values of terms, and what actions do, where their boxes are elsewhere.
 use Rattle.std.proofs.Common.{◌≡◌, ℤ, refl}
 use Rattle.ipdl_base.specs.Plain.{one_box}
 use Rattle.ipdl_base.specs.declared.value.Value as boxed

@@ -1,4 +1,4 @@
--- The lines of a transcript do not look at where the boxes of a schema lie.
+-- The lines of a transcript do not depend on where the boxes of a schema are.
 use Rattle.std.proofs.Common.{◌≡◌, ◌∙◌, ℕ, ℤ, List, [], ◌∷◌, ◌++◌, codes, map, Option, None, Some, refl, sym}
 use Rattle.history.specs.Messages.{message_of_number}
 use Rattle.history.specs.Text.{returns_named, listed_values, request_text, numbered, refused_text, what_text, line_begin, line_text, lines_text, transcript_text}
@@ -21,7 +21,7 @@ module _ (s : Schema) where
   named_alike None = refl
   named_alike (Some n) = returns_alike s n
 
-  -- what a line says, where types are the returns of the message of a number
+  -- the content of a line, where types are the returns of the message of a number
   module _ (others types : ℤ → List ParamRow) (same : (n : ℤ) → others n ≡ map plain_param_row (types n)) where
     given_alike : (n : ℤ) (vs : Values) → listed_values (plain_schema s) (others n) vs ≡ listed_values s (types n) vs
     given_alike n vs = listed s (others n) (types n) vs (same n)

@@ -1,4 +1,4 @@
--- Which messages fit a schema does not depend on where its boxes lie.
+-- Which messages fit a schema does not depend on where its boxes are.
 use Rattle.std.proofs.Common.{◌≡◌, ◌∙◌, ℕ, ◌<◌, ◌^◌, List, [], ◌∷◌, map, Option, Some, None, refl, sym, ap, subst, unwrap_or}
 use Rattle.std.specs.Prelude.{◌≤ℤ◌, IsTrue, IsSomeAnd, option_map, option_and_then}
 use Rattle.std.specs.Str.{IsUtf8}
@@ -67,7 +67,7 @@ module _ (s : Schema) where
   returns_typed : (row : MessageRow) (vs : Values) → HaveTypes (plain_schema s) (unwrap_or (plain_message_row row).returns []) vs ≡ HaveTypes s (unwrap_or row.returns []) vs
   returns_typed row vs = (λ i. HaveTypes (plain_schema s) (listed_alike plain_param_row row.returns i) vs) ∙ all_typed (unwrap_or row.returns []) vs
 
-  -- the row of a number in the one schema is that in the other
+  -- the row of a number in one schema is that in the other
 
   row_under : (n : ℕ) (other : MessageRow) → message_of (plain_schema s) n ≡ Some other → (row : MessageRow) × (message_of s n ≡ Some row) × (plain_message_row row ≡ other)
   row_under n other is = under plain_message_row (message_of s n) other (sym (message_alike s n) ∙ is)

@@ -1,4 +1,4 @@
--- Whether values have their types, the actors in them and the nulls that are put in do not look at where boxes lie.
+-- Whether values have their types, the actors in them and the nulls that are put in do not depend on where boxes are.
 use Rattle.std.proofs.Common.{◌≡◌, ◌∙◌, ◌^◌, List, [], ◌∷◌, ◌++◌, map, false, refl, ap, unwrap_or}
 use Rattle.std.specs.Prelude.{ℤ, pos, nat_lt, not, ◌&&◌, if◌then◌else◌, find, is_some, option_map, option_and_then}
 use Rattle.std.specs.List.{list_any}
@@ -27,7 +27,7 @@ use Rattle.channel_model.specs.Typed.{is_bool, is_text, is_within, is_actor_of, 
 use Rattle.channel_model.specs.ValueActors.{actor_at, actors_in, actors_held, actors_in_all, actors_in_parts, is_dead, missing, has_dead, received_id, nulled_value, nulled_held, nulled_all, nulled, received}
 use Rattle.schema_laws.proofs.RowsAlike.{returns_alike}
 
--- What a type says of a value
+-- The parts of a type
 
 bool_alike : (shape : Shape) → is_bool (plain_shape shape) ≡ is_bool shape
 bool_alike (Builtin b) = refl

@@ -1,4 +1,5 @@
--- The report of what may interrupt a wait does not look at where the boxes of a schema lie, and there is one.
+-- The report of what may interrupt a wait does not depend on where the boxes of a schema are, and there is one
+-- report.
 use Rattle.std.proofs.Common.{◌≡◌, ◌∙◌, ℕ, ◌+◌, ◌≤◌, Bool, true, List, [], ◌∷◌, map, Option, Some, None, slice_get, refl, sym, ap, subst, Less}
 use Rattle.std.specs.Prelude.{option_map, IsTrue}
 use Rattle.std.specs.Cmp.{IsTotalOrder}
@@ -67,7 +68,7 @@ module _ (s : Schema) (top : ℕ) where
     values_there send.nothing = send.nothing
     values_there (send.first here others is are least) = send.first here others (value_there is) (values_there are) least
 
--- And back
+-- The other direction
 
 struct_back : (o : Option TypeRow) (name : List ℕ) (others : List ParamRow) → option_map plain_type_row o ≡ Some (Struct name others) → (fields : List ParamRow) × (o ≡ Some (Struct name fields)) × (map plain_param_row fields ≡ others)
 struct_back None name others e = absurd (let no : ⊥ = cc in no)
@@ -85,14 +86,14 @@ union_back (Some (Union own components)) name others e =
     let alike : map plain_shape components ≡ others = cc in
     (components, ap (λ n. Some (Union n components)) same, alike)
 
--- a component under its plain one
+-- a component, from its plain form
 component_back : (components : List Shape) (other : Shape) → Contains (map plain_shape components) other → (component : Shape) × Contains components component × (plain_shape component ≡ other)
 component_back components other among =
     let place = place_in (map plain_shape components) other among in
     let found = under plain_shape (slice_get components place.0) other (sym (slice_get-map plain_shape components place.0) ∙ place.1) in
     (found.0, in_place components place.0 found.0 found.1, found.2)
 
--- Types under their plain ones
+-- Types, from their plain forms
 
 builtin_back : (shape : Shape) (b : _) → plain_shape shape ≡ Builtin b → shape ≡ Builtin b
 builtin_back (Builtin b') b e = e
@@ -164,7 +165,7 @@ unique_back (Maybe' at' held') at held e = absurd (let no : ⊥ = cc in no)
 unique_back (Unique' at' held') at held e = (at', held', refl)
 unique_back (Endpoint p' managed') at held e = absurd (let no : ⊥ = cc in no)
 
--- A message under its plain one that can be sent.
+-- A message that can be sent, from its plain form.
 record IsSentUnder (s : Schema) (top : ℕ) (other : MessageRow) : Type 0 where
   pub row : MessageRow
   pub plain : plain_message_row row ≡ other

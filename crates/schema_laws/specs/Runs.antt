@@ -1,4 +1,4 @@
--- What a run of a script, its lines and the script itself do not look at: where the boxes of types and of terms lie.
+-- A run of a script, its lines and the script itself do not depend on where the boxes of types and of terms are.
 use Rattle.std.specs.Prelude.{◌≡◌, ℕ, List}
 use Rattle.ipdl_base.specs.declared.finding.Finding.{Finding}
 use Rattle.ipdl_base.specs.declared.kinds.Side.{Side}
@@ -20,29 +20,30 @@ use Rattle.schedules.specs.declared.turn.Turn.{Turn}
 use Rattle.script_steps.specs.Choices.{Choice, Setting, beginning_of, is_within, own_event, played}
 use Rattle.script_steps.specs.Turns.{RunEnding, Picks, is_quiet_at}
 
--- Two settings are the same, up to where the boxes of their types and of their terms lie.
+-- Two settings are the same, except for where the boxes of their types and of their terms are.
 pub record AreSettingsAlike (a b : Setting) : Type 0 where
   pub schemas : AreSchemasAlike a.schema b.schema
   pub scripts : plain_script a.script ≡ plain_script b.script
   pub stop : a.stop ≡ b.stop
   pub limit : a.limit ≡ b.limit
 
--- Under schemas that are so alike each event does the same at an end: it makes the same end, lines and packets, or is not possible.
+-- Under such schemas each event does the same at an end: it makes the same end, lines and packets, or is not
+-- possible.
 abbrev pub StepsAlike : Type 0
 StepsAlike = (a b : Schema) → AreSchemasAlike a b → (e : End) (link : List Packet) (event : Event) → step a e link event ≡ step b e link event
 
--- Under such settings a side does the same next of its own.
+-- With such settings a side does the same as its next own event.
 abbrev pub EventsAlike : Type 0
 EventsAlike = (a b : Setting) → AreSettingsAlike a b → (side : Side) (state : RunState) → own_event a side state ≡ own_event b side state
 
--- So a word makes the same run of both, with the same ending.
+-- With such settings a word makes the same run, with the same ending.
 abbrev pub PicksAlike : Type 0
 PicksAlike =
     (a b : Setting) → AreSettingsAlike a b → (word : List Turn) (state : RunState) (ending : RunEnding)
     → Picks a word (beginning_of a) state ending → Picks b word (beginning_of b) state ending
 
--- Choices make the same run of both, or of neither; and in each state a side is at the limit by both, and has something to
--- do by both.
+-- With such settings choices make the same run, or none. In each state a side is at the limit with both or neither,
+-- and has something to do with both or neither.
 pub record ChoicesAlike : Type 0 where
   pub plays : (a b : Setting) → AreSettingsAlike a b → (choices : List Choice) → played a choices (beginning_of a) ≡ played b choices (beginning_of b)
   pub within : (a b : Setting) → AreSettingsAlike a b → (side : Side) (state : RunState) → is_within a side state ≡ is_within b side state
@@ -52,8 +53,8 @@ pub record ChoicesAlike : Type 0 where
 abbrev pub TextsAlike : Type 0
 TextsAlike = (a b : Schema) → AreSchemasAlike a b → (lines : List Line) → transcript_text a lines ≡ transcript_text b lines
 
--- Under such schemas a text has the same script, up to where the boxes of its terms lie, or the same report, and never a
--- script of the one and broken rules of the other.
+-- Under such schemas a text has the same script, except for where the boxes of its terms are, or the same report. It
+-- never has a script under one and broken rules under the other.
 pub record ScriptsAlike : Type 0 where
   pub script : (a b : Schema) → AreSchemasAlike a b → (text : List ℕ) (top : ℕ) (script other : Script)
       → IsScriptOf text a top script → IsScriptOf text b top other → plain_script script ≡ plain_script other

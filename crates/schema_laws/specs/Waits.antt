@@ -6,7 +6,8 @@ use Rattle.wait_report.specs.declared.pair.Pair.{Pair}
 use Rattle.wait_report.specs.Pairs.{IsReport}
 use Rattle.schema_laws.specs.Frames.{AreSchemasAlike}
 
--- Schemas that are the same, up to where the boxes of their types lie, have the same report, and name messages alike.
+-- Schemas that are the same, except for where the boxes of their types are, have the same report, and name messages
+-- alike.
 pub record WaitsAlike : Type 0 where
   pub reports : (a b : Schema) → AreSchemasAlike a b → (top : ℕ) (pairs : List Pair) → IsReport a top pairs → IsReport b top pairs
   pub names : (a b : Schema) → AreSchemasAlike a b → (number : ℕ) → message_text a number ≡ message_text b number

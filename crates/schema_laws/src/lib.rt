@@ -1,5 +1,8 @@
-//! Laws of schemas that are the same up to where the boxes of their types lie: bytes hold the same frames under them, there
-//! is one report of waits, and a script with a word of turns makes the same run (docs/theorems.md). No function that runs.
+//! Laws of schemas that are the same except for where the boxes of their types are: under them bytes are the
+//! same
+//! frames, there is one report of waits, and a script with a word of turns makes the same run
+//! (docs/theorems.md). No
+//! function of this crate computes anything.
 #![tactic(auto)]
 
 mod frames;

@@ -1,41 +1,41 @@
-//! What scripts, runs, feeds and relays do not look at: where boxes lie.
+//! Scripts, runs, feeds and relays do not depend on where boxes are.
 ghost use Rattle.schema_laws.specs.Feeds.{FeedsAlike};
 ghost use Rattle.schema_laws.specs.Relays.{RelaysAlike};
 ghost use Rattle.schema_laws.specs.Runs.{ChoicesAlike, EventsAlike, PicksAlike, ScriptsAlike, StepsAlike, TextsAlike};
 
 use script_laws::one_answer;
 
-/// The law of alike steps: under schemas that are the same up to where their boxes lie, each event does
+/// The law of alike steps: under schemas that are the same except for where their boxes are, each event does
 /// the same at an end, or is possible under neither.
 pub fn steps_alike()
     ensures { StepsAlike }
 {}
 
-/// The law of alike events: by settings that are the same up to where the boxes of types and terms lie,
-/// a side does the same next of its own.
+/// The law of alike events: with settings that are the same except for where the boxes of types and terms
+/// are, a side does the same as its next own event.
 pub fn events_alike()
     ensures { EventsAlike }
 {}
 
-/// The law of alike words: by such settings a word makes the same run, with the same ending.
+/// The law of alike words: with such settings a word of turns makes the same run, with the same ending.
 pub fn picks_alike()
     ensures { PicksAlike }
 {}
 
-/// The law of alike choices: by such settings choices make the same run, or none, and in each state a
-/// side is at the limit by both, and has something to do by both.
+/// The law of alike choices: with such settings choices make the same run, or none; and in each state a side
+/// is at the limit with both or neither, and has something to do with both or neither.
 pub fn choices_alike()
     ensures { ChoicesAlike }
 {}
 
-/// The law of alike feeds: one end makes the same of bytes by settings that are the same up to where the
-/// boxes of types and terms lie.
+/// The law of alike feeds: one end does the same with bytes under settings that are the same except for where
+/// the boxes of types and terms are.
 pub fn feeds_alike()
     ensures { FeedsAlike }
 {}
 
-/// The law of alike relays: by settings that are the same up to where the boxes of types and terms lie,
-/// there are the same relays of both ends, with the same endings.
+/// The law of alike relays: settings that are the same except for where the boxes of types and terms are have
+/// the same relays of both ends, with the same endings.
 pub fn relays_alike()
     ensures { RelaysAlike }
 {}
@@ -45,8 +45,8 @@ pub fn texts_alike()
     ensures { TextsAlike }
 {}
 
-/// The law of alike scripts: under such schemas a text has the same script, up to where the boxes of its
-/// terms lie, or the same report of broken rules.
+/// The law of alike scripts: under such schemas a text has the same script, except for where the boxes of its
+/// terms are, or the same report of broken rules.
 pub fn scripts_alike()
     ensures { ScriptsAlike }
 {

@@ -1,5 +1,5 @@
-//! The schema of a program that is given by the texts of its files. It is for tests: the crates of
-//! tests above it stand on a sound schema, and none of the product does.
+//! For tests: the schema of a program that is given by the texts of its files. The crates of tests above it use its sound
+//! schemas; no crate of the product uses it.
 #![tactic(auto)]
 
 ghost use Rattle.std.specs.Prelude.{IfOk};
@@ -9,15 +9,16 @@ ghost use Rattle.ipdl_syntax.specs.Programs.{IsProgram, BearTheirNames};
 use actor_tables::schema;
 use file_log::RecordedFiles;
 use include_graph::{LoadResult, are_file_words, load};
-use ipdl_base::{MemoryFiles, Schema};
+use ipdl_base::Schema;
 use ipdl_syntax::Program;
+use memory_files::MemoryFiles;
 use name_table::Names;
-use proto_rules::add_of_protocols;
+use program_schema::add_of_protocols;
 use std::alloc::Global;
 use std::test::Fail;
 use type_rules::add_of_types;
 
-/// The program that a file of these reaches, which breaks no rule of files.
+/// Loads the program that the file `word` reaches. Fails if it breaks a rule on files, or if memory runs out.
 fn program(alloc: Global, files: MemoryFiles, word: &str) -> Result<Program, Fail>
     ensures program { IfOk result IsProgram }
     ensures names { IfOk result BearTheirNames }
@@ -34,7 +35,7 @@ fn program(alloc: Global, files: MemoryFiles, word: &str) -> Result<Program, Fai
     }
 }
 
-/// The schema of a program that breaks no rule.
+/// Returns the schema of a program. Fails if the program breaks a rule, or if memory runs out.
 fn clean_schema(alloc: Global, program: &Program) -> Result<Schema, Fail>
     requires program { IsProgram program.now }
     requires names { BearTheirNames program.now }
@@ -50,8 +51,8 @@ fn clean_schema(alloc: Global, program: &Program) -> Result<Schema, Fail>
     Ok(schema(alloc, program, &names)?)
 }
 
-/// The schema of the program that a file of these reaches, which breaks no rule; and a failure where
-/// it breaks one, or where the word names no file of the language.
+/// Returns the schema of the program that the file `word` reaches. Fails if the program breaks a rule, if `word` does not
+/// name a file of the language, or if memory runs out.
 pub fn schema_of(alloc: Global, files: MemoryFiles, word: &str) -> Result<Schema, Fail>
     ensures { IfOk result IsSound }
 {

@@ -115,7 +115,7 @@ module _ (script : Script) (side : Side) where
       let d = more.left in
       record { more = omega (arith, a, c); left = omega (arith, a, b, c, d) }
 
-  -- An action is there: of the innermost handler, or of main where none runs.
+  -- There is an action: of the innermost handler, or of main if no handler runs.
   pub data HasAction (p : Progress) : Type 0 where
     in_main : (a : Action) → p.handled ≡ [] → action_at script side (point.Main p.main) ≡ Some a → HasAction p
     in_handler : (request : HandledRequest) (below : List HandledRequest) (a : Action) → p.handled ≡ request ∷ below → handler_action script side request ≡ Some a → HasAction p

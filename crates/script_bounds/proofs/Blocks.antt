@@ -1,23 +1,22 @@
--- Each block serves one request, but for the last of a message.
+-- Each block serves one request, except the last block of a message.
 use Rattle.std.proofs.Common.{◌≡◌, ℕ, zero, suc, ◌+◌, ◌-◌, ◌<◌, ◌≤◌, min, nat_lt, Bool, true, false, not, ◌&&◌, ◌==◌, cond, if◌then◌else◌, List, [], ◌∷◌, ◌++◌, length, filter, Option, Some, None, refl, sym, ap, subst, ◌∙◌, arith}
 use Rattle.std.specs.List.{slice_get}
 use Rattle.std.proofs.lemmas.Bool.{false≢true, ltb-false}
 use Rattle.std.proofs.lemmas.Bool.Decides.{Decides-ltb, Decides-eqb}
 use Rattle.std.proofs.lemmas.List.Elements.{filter-append}
 use Rattle.ipdl_base.specs.declared.kinds.Side.{Side}
-use Rattle.ipdl_base.specs.declared.kinds.Side.TheVariants as side
 use Rattle.ipdl_base.specs.Lines.{same_side}
 use Rattle.channel_laws.specs.Counts.{one_if}
 use Rattle.handler_script.specs.declared.action.Block.{Block}
 use Rattle.handler_script.specs.declared.script.Script.{Script}
 use Rattle.handler_script.specs.ScriptOf.{blocks_for}
-use Rattle.handler_script.specs.Served.{is_number, is_side, serves}
+use Rattle.handler_script.specs.Served.{is_number, serves}
 use Rattle.script_bounds.specs.Actions.{actions_again, actions_for, actions_in, actions_of, actions_served, block_actions, block_count, taken_before}
 use Rattle.script_bounds.specs.Laws.{BlocksServeOnce, ServesAgainWithoutActions}
 
 -- Blocks that have not served
 
--- so many blocks of the message stand before
+-- there is this number of blocks of the message before
 abbrev place_of : Side → ℕ → List Block → ℕ
 place_of s number before = length (filter (serves s (Some number)) before)
 
@@ -27,9 +26,9 @@ is_unused_for s taken before None = false
 is_unused_for s taken before (Some number) = not (nat_lt (place_of s number before) (taken_before number taken))
 
 abbrev unused_at : Side → List ℕ → List Block → Block → ℕ
-unused_at s taken before block = cond (is_side block.side s && is_unused_for s taken before block.handles) (length block.actions) 0
+unused_at s taken before block = cond (same_side block.side s && is_unused_for s taken before block.handles) (length block.actions) 0
 
--- the actions of those that have not
+-- the actions of the blocks that have not served
 abbrev unused : Side → List ℕ → List Block → List Block → ℕ
 unused s taken before [] = 0
 unused s taken before (block ∷ blocks) = unused_at s taken before block + unused s taken (before ++ block ∷ []) blocks
@@ -49,7 +48,7 @@ lt-not m n h = by (nat_lt m n) refl
 same-eq : (n : ℕ) → (n == n) ≡ true
 same-eq n = (Decides-eqb n n).1 refl
 
--- one more block stands before
+-- one more block is before
 place-more : (s : Side) (number : ℕ) (before : List Block) (block : Block) (b : Bool) → serves s (Some number) block ≡ b → place_of s number (before ++ block ∷ []) ≡ place_of s number before + one_if b
 place-more s number before block b is =
     ap length (filter-append (serves s (Some number)) before (block ∷ [])) ∙ ap (λ (c : Bool). length (filter (serves s (Some number)) before ++ cond c (block ∷ []) [])) is ∙ by b (filter (serves s (Some number)) before)
@@ -62,7 +61,7 @@ place-more s number before block b is =
 
 -- a block of another message, or of another side, has served as before
 other-unused : (s : Side) (number : ℕ) (taken : List ℕ) (before : List Block) (block : Block) → serves s (Some number) block ≡ false → unused_at s (number ∷ taken) before block ≡ unused_at s taken before block
-other-unused s number taken before block none = by (is_side block.side s) block.handles none
+other-unused s number taken before block none = by (same_side block.side s) block.handles none
   where
     by : (b : Bool) (h : Option ℕ) → (b && is_number h (Some number)) ≡ false → cond (b && is_unused_for s (number ∷ taken) before h) (length block.actions) 0 ≡ cond (b && is_unused_for s taken before h) (length block.actions) 0
     by false h e = refl
@@ -73,16 +72,16 @@ other-unused s number taken before block none = by (is_side block.side s) block.
         flipped true is = let same : number ≡ m = (Decides-eqb number m).0 is in absurd (false≢true (sym e ∙ ap (λ (k : ℕ). k == number) (sym same) ∙ same-eq number))
         flipped false is = is
 
--- a block of the message has, where its place is below the count
-own-side : (s : Side) (number : ℕ) (block : Block) → serves s (Some number) block ≡ true → is_side block.side s ≡ true
-own-side s number block e = by (is_side block.side s) (is_number block.handles (Some number)) e
+-- a block of the message has served, if its place is below the count
+own-side : (s : Side) (number : ℕ) (block : Block) → serves s (Some number) block ≡ true → same_side block.side s ≡ true
+own-side s number block e = by (same_side block.side s) (is_number block.handles (Some number)) e
   where
     by : (b c : Bool) → (b && c) ≡ true → b ≡ true
     by true c k = refl
     by false c k = absurd (false≢true k)
 
 own-message : (s : Side) (number : ℕ) (block : Block) → serves s (Some number) block ≡ true → block.handles ≡ Some number
-own-message s number block e = handled block.handles refl (by (is_side block.side s) (is_number block.handles (Some number)) e)
+own-message s number block e = handled block.handles refl (by (same_side block.side s) (is_number block.handles (Some number)) e)
   where
     by : (b c : Bool) → (b && c) ≡ true → c ≡ true
     by true c k = k
@@ -95,14 +94,14 @@ own-message s number block e = handled block.handles refl (by (is_side block.sid
 own-unused : (s : Side) (number : ℕ) (taken : List ℕ) (before : List Block) (block : Block) (b : Bool) → serves s (Some number) block ≡ true → nat_lt (place_of s number before) (taken_before number taken) ≡ b
     → unused_at s taken before block ≡ cond (not b) (length block.actions) 0
 own-unused s number taken before block b is placed =
-    ap (λ (h : Option ℕ). cond (is_side block.side s && is_unused_for s taken before h) (length block.actions) 0) (own-message s number block is)
+    ap (λ (h : Option ℕ). cond (same_side block.side s && is_unused_for s taken before h) (length block.actions) 0) (own-message s number block is)
     ∙ ap (λ (c : Bool). cond (c && not (nat_lt (place_of s number before) (taken_before number taken))) (length block.actions) 0) (own-side s number block is)
     ∙ ap (λ (c : Bool). cond (not c) (length block.actions) 0) placed
 
 count-more : (number : ℕ) (taken : List ℕ) → taken_before number (number ∷ taken) ≡ suc (taken_before number taken)
 count-more number taken = ap (λ (b : Bool). one_if b + taken_before number taken) (same-eq number) ∙ omega arith
 
--- where the count is passed, nothing changes
+-- if the place is above the count, nothing changes
 unused-past : (s : Side) (number : ℕ) (taken : List ℕ) (before blocks : List Block) → taken_before number taken < place_of s number before → unused s (number ∷ taken) before blocks ≡ unused s taken before blocks
 unused-past s number taken before [] past = refl
 unused-past s number taken before (block ∷ blocks) past = by (serves s (Some number) block) refl (unused-past s number taken (before ++ block ∷ []) blocks)
@@ -123,7 +122,7 @@ unused-past s number taken before (block ∷ blocks) past = by (serves s (Some n
         let later = more (omega (arith, past, place)) in
         ap (λ (n : ℕ). n + unused s (number ∷ taken) (before ++ block ∷ []) blocks) (other-unused s number taken before block is) ∙ ap (λ (n : ℕ). unused_at s taken before block + n) later
 
--- where it is not, the block at that place serves now
+-- if it is not, the block at that place serves now
 unused-next : (s : Side) (number j : ℕ) (taken : List ℕ) (before blocks : List Block) → taken_before number taken ≡ place_of s number before + j
     → unused s taken before blocks ≡ unused s (number ∷ taken) before blocks + actions_of (slice_get (filter (serves s (Some number)) blocks) j)
 unused-next s number j taken before [] count = refl
@@ -159,17 +158,11 @@ unused-next s number j taken before (block ∷ blocks) count = by (serves s (Som
 -- All blocks
 
 -- the first main of a side, and its handlers, are among its blocks
-same-is : (a b : Side) → is_side a b ≡ same_side a b
-same-is side.Parent side.Parent = refl
-same-is side.Parent side.Child = refl
-same-is side.Child side.Parent = refl
-same-is side.Child side.Child = refl
-
 abbrev first_main : Side → List Block → ℕ
 first_main s blocks = actions_of (slice_get (filter (serves s None) blocks) 0)
 
 unused-few : (s : Side) (before : List Block) (block : Block) → unused_at s [] before block ≤ block_actions s block
-unused-few s before block = subst (λ (b : Bool). unused_at s [] before block ≤ (if b then length block.actions else 0)) (same-is block.side s) (by (is_side block.side s) (is_unused_for s [] before block.handles))
+unused-few s before block = by (same_side block.side s) (is_unused_for s [] before block.handles)
   where
     by : (b c : Bool) → cond (b && c) (length block.actions) 0 ≤ (if b then length block.actions else 0)
     by true true = omega arith
@@ -177,12 +170,12 @@ unused-few s before block = subst (λ (b : Bool). unused_at s [] before block �
     by false c = omega arith
 
 main-served : (s : Side) (before : List Block) (block : Block) → serves s None block ≡ true → (unused_at s [] before block ≡ 0) × (block_actions s block ≡ length block.actions)
-main-served s before block e = by (is_side block.side s) refl block.handles refl e
+main-served s before block e = by (same_side block.side s) refl block.handles refl e
   where
-    by : (b : Bool) → is_side block.side s ≡ b → (h : Option ℕ) → block.handles ≡ h → (b && is_number h None) ≡ true → (unused_at s [] before block ≡ 0) × (block_actions s block ≡ length block.actions)
+    by : (b : Bool) → same_side block.side s ≡ b → (h : Option ℕ) → block.handles ≡ h → (b && is_number h None) ≡ true → (unused_at s [] before block ≡ 0) × (block_actions s block ≡ length block.actions)
     by true is None none k = (
-      ap (λ (o : Option ℕ). cond (is_side block.side s && is_unused_for s [] before o) (length block.actions) 0) none ∙ ap (λ (b : Bool). cond (b && false) (length block.actions) 0) is,
-      ap (λ (b : Bool). if b then length block.actions else 0) (sym (same-is block.side s) ∙ is),
+      ap (λ (o : Option ℕ). cond (same_side block.side s && is_unused_for s [] before o) (length block.actions) 0) none ∙ ap (λ (b : Bool). cond (b && false) (length block.actions) 0) is,
+      ap (λ (b : Bool). if b then length block.actions else 0) is,
     )
     by true is (Some m) some k = absurd (false≢true k)
     by false is h some k = absurd (false≢true k)
@@ -230,7 +223,7 @@ blocks_serve_once script s taken =
     let once = served-once script s taken in
     omega (arith, first, once)
 
--- Where the last block of each message has no actions, nothing is done by a block that serves again.
+-- If the last block of each message has no actions, blocks that serve again do nothing.
 pub again-silent : (script : Script) → ServesAgainWithoutActions script → (s : Side) (taken : List ℕ) → actions_again script s taken ≡ 0
 again-silent script silent s [] = refl
 again-silent script silent s (number ∷ taken) = by (nat_lt (taken_before number taken) (block_count script s number)) refl (again-silent script silent s taken)

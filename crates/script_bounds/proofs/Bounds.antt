@@ -1,4 +1,4 @@
--- The acts of a side are no more than its actions; so a run is bounded, and comes to rest.
+-- A side has at most as many acts as actions, so a run is bounded and comes to rest.
 use Rattle.std.proofs.Common.{◌≡◌, ◌⊎◌, inl, inr, ℕ, ◌+◌, ◌*◌, ◌<◌, ◌≤◌, Bool, true, false, not, ◌&&◌, cond, nat_lt, if◌then◌else◌, List, [], ◌∷◌, ◌++◌, map, Option, Some, None, is_some, refl, sym, ap, subst, ◌∙◌, arith}
 use Rattle.std.specs.Prelude.{option_map}
 use Rattle.std.specs.List.{AllZip}
@@ -63,7 +63,7 @@ use Rattle.script_bounds.proofs.Acting.{HasAction, act-uses, action-left, in_han
 
 -- What an end does next
 
--- An event is an action of the script, the death by a stop, or no act.
+-- An event is an action of the script, the death by a stop, or not an act.
 data IsAction (setting : Setting) (side : Side) (e : End) (p : Progress) : Event → Type 0 where
   by_script : (context : TermContext) (seq : _) (a : Action) → HasAction setting.script side p → IsAction setting side e p (event_of context seq a)
   by_stop : deaths setting.stop side ≡ 1 → IsAction setting side e p event.die
@@ -134,7 +134,7 @@ module _ (setting : Setting) (side : Side) (e : End) (p : Progress) (own : e.sid
 
 -- What a side has done
 
--- The acts that a side has told, and the actions that are left to it, are those of its main and of the requests that it took.
+-- The acts that the lines of a side show, and the actions that are left to it, are those of its main and of the requests that it took.
 record HasActed (setting : Setting) (side : Side) (e : End) (ws : List What) : Type 0 where
   living : is_dead_end e.state ≡ false → how_many tells_act ws + left setting.script side (after_lines no_progress ws) ≤ main_actions setting.script side + served setting.script side (after_lines no_progress ws)
   ever : how_many tells_act ws ≤ main_actions setting.script side + (served setting.script side (after_lines no_progress ws) + deaths setting.stop side)
@@ -180,7 +180,7 @@ module _ (setting : Setting) (side : Side) where
         let serves = ap (served script side) now in
         record { living = λ dead. omega (arith, told, one, before, more, less, lefts, serves); ever = omega (arith, told, one, before, more, less, lefts, serves) }
 
-    -- an act that is an action and no death
+    -- an act that is an action and not a death
     uses : is_act pr.first ≡ true → HasAction script side (reached ws) → HasActed setting side output.end (ws ++ (pr.first ∷ pr.rest))
     uses act has =
         let told = many-append tells_act ws (pr.first ∷ pr.rest) in

@@ -10,11 +10,11 @@ use Rattle.handler_script.specs.declared.script.Script.{Script}
 use Rattle.handler_script.specs.ScriptOf.{blocks_for}
 use Rattle.schedules.specs.declared.stop.Stop.{Stop}
 
--- the actions of a block, where there is one
+-- the actions of a block, or 0 if there is no block
 abbrev pub actions_of : Option Block → ℕ
 actions_of block = option_map_or (λ b. length b.actions) block 0
 
--- of the main of a side
+-- the actions of the main of a side
 abbrev pub main_actions : Script → Side → ℕ
 main_actions script side = actions_of (slice_get (blocks_for script side None) 0)
 
@@ -22,8 +22,8 @@ main_actions script side = actions_of (slice_get (blocks_for script side None) 0
 abbrev pub block_count : Script → Side → ℕ → ℕ
 block_count script side number = length (blocks_for script side (Some number))
 
--- the actions of the block that serves a request of a message, where the side had taken so many of that message before: each
--- block serves one request, and the last one serves all that come after its own
+-- the actions of the block that serves a request of a message, where the side had taken this number of requests of that
+-- message before: each block serves one request, and the last block all further requests
 abbrev pub actions_for : Script → Side → ℕ → ℕ → ℕ
 actions_for script side number count = actions_of (slice_get (blocks_for script side (Some number)) (min count (block_count script side number - 1)))
 
@@ -31,12 +31,12 @@ actions_for script side number count = actions_of (slice_get (blocks_for script 
 abbrev pub taken_before : ℕ → List ℕ → ℕ
 taken_before number taken = how_many (λ n. n == number) taken
 
--- The actions that the taken requests bring, the latest first, by the messages that they are of.
+-- The actions that the taken requests bring, by the numbers of their messages, the latest first.
 abbrev pub actions_served : Script → Side → List ℕ → ℕ
 actions_served script side [] = 0
 actions_served script side (number ∷ before) = actions_for script side number (taken_before number before) + actions_served script side before
 
--- And those that they bring by blocks that serve again.
+-- The part of these actions that comes from blocks that serve again.
 abbrev pub actions_again : Script → Side → List ℕ → ℕ
 actions_again script side [] = 0
 actions_again script side (number ∷ before) =
@@ -53,6 +53,6 @@ actions_in side (block ∷ blocks) = block_actions side block + actions_in side 
 abbrev pub side_actions : Script → Side → ℕ
 side_actions script side = actions_in side script.blocks
 
--- one death that no action asks for, where a stop names the side
+-- 1 for a death that no action asks for, if a stop names the side
 abbrev pub deaths : Option Stop → Side → ℕ
 deaths stop side = option_map_or (λ s. if same_side s.side side then 1 else 0) stop 0

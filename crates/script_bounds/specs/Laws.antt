@@ -19,15 +19,15 @@ use Rattle.script_bounds.specs.Actions.{actions_again, actions_of, actions_serve
 abbrev pub taken_by : Side → RunState → List ℕ
 taken_by side state = (progress_of side state.lines).taken
 
--- The acts of a side are no more than the actions of its main, those of the blocks that served its requests, and its death by
--- a stop.
+-- A side has no more acts than the actions of its main and of the blocks that served its requests, plus its death by a
+-- stop.
 abbrev pub ActsAreActions : Type 0
 ActsAreActions =
     (setting : Setting) (choices : List Choice) (state : RunState) → IsSound setting.schema → played setting choices (beginning_of setting) ≡ Some state
     → (side : Side) → how_many tells_act (lines_of side state.lines) ≤ main_actions setting.script side + (actions_served setting.script side (taken_by side state) + deaths setting.stop side)
 
--- Whatever requests a side has taken, its main and the blocks that served them have no more actions than the script gives to
--- the side, but for blocks that served again.
+-- Whatever requests a side has taken, its main and the blocks that served them have no more actions than the script gives
+-- to the side, plus those of blocks that served again.
 abbrev pub BlocksServeOnce : Type 0
 BlocksServeOnce = (script : Script) (side : Side) (taken : List ℕ) → main_actions script side + actions_served script side taken ≤ side_actions script side + actions_again script side taken
 
@@ -39,13 +39,13 @@ actions_by setting state side = side_actions setting.script side + (actions_agai
 abbrev pub event_count : RunState → ℕ
 event_count state = (progress_of Parent state.lines).events + (progress_of Child state.lines).events
 
--- A run of a script has at most seven events for each action: the act itself, and six that happen by themselves.
+-- A run of a script has at most seven events for each action: the act, and six that happen by themselves.
 abbrev pub RunsAreBounded : Type 0
 RunsAreBounded =
     (setting : Setting) (choices : List Choice) (state : RunState) → IsSound setting.schema → played setting choices (beginning_of setting) ≡ Some state
     → event_count state ≤ 7 * (actions_by setting state Parent + actions_by setting state Child)
 
--- the last block of each message, which serves all requests that come after its own, has no actions
+-- the last block of each message, which serves all further requests, has no actions
 abbrev pub ServesAgainWithoutActions : Script → Type 0
 ServesAgainWithoutActions script = (side : Side) (number : ℕ) → actions_of (slice_get (blocks_for script side (Some number)) (block_count script side number - 1)) ≡ 0
 
@@ -53,8 +53,8 @@ ServesAgainWithoutActions script = (side : Side) (number : ℕ) → actions_of (
 abbrev pub all_actions : Setting → ℕ
 all_actions setting = (side_actions setting.script Parent + deaths setting.stop Parent) + (side_actions setting.script Child + deaths setting.stop Child)
 
--- So each run of a script in which the last block of each message has no actions ends at rest, whatever the order of its sides, where the
--- limit is above seven events for each action.
+-- So each run of a script in which the last block of each message has no actions ends at rest, whatever the order of its
+-- sides, if the limit is above seven events for each action.
 abbrev pub ScriptsComeToRest : Type 0
 ScriptsComeToRest =
     (setting : Setting) (choices : List Choice) (state : RunState) (ending : RunEnding) → IsSound setting.schema → ServesAgainWithoutActions setting.script → 7 * all_actions setting < setting.limit

@@ -1,4 +1,4 @@
--- Whether something holds is decided: tests, what is in an option, orders, and types.
+-- Whether something is true is decided: tests, what is in an option, orders, and types.
 use Rattle.std.proofs.Common.{◌≡◌, ◌⊎◌, ℕ, Bool, true, false, ℤ, ◌≤ℤ◌, Option, Some, None, inl, inr, refl, ap, ◌∙◌, sym, arith}
 use Rattle.std.specs.Prelude.{IsSomeAnd}
 use Rattle.std.specs.Bool.{Decides}
@@ -12,7 +12,7 @@ use Rattle.ipdl_base.specs.declared.builtin.Builtin.{Builtin as BuiltinType}
 use Rattle.ipdl_base.specs.declared.schema.Shape.{Shape, Builtin, Using, Actor, Named, Array', Maybe', Unique', Endpoint}
 use Rattle.report_existence.proofs.Finite.{both_or_not}
 
--- it holds, or it does not
+-- it is true, or it is not
 abbrev pub IsDecided : Type 0 → Type 0
 IsDecided Fact = Fact ⊎ (Fact → ⊥)
 
@@ -20,7 +20,7 @@ pub decided_as : {P Q : Type 0} → (P → Q) → (Q → P) → IsDecided P → 
 decided_as to from (inl p) = inl (to p)
 decided_as to from (inr none) = inr (λ q. none (from q))
 
--- what a test says
+-- what a test shows
 
 pub is_true : (b : Bool) → IsDecided (b ≡ true)
 is_true true = inl refl
@@ -33,7 +33,7 @@ is_false false = inl refl
 by_test : {P : Type 0} (b : Bool) → Decides b P → IsDecided P
 by_test b d = decided_as d.0 d.1 (is_true b)
 
--- what holds of what is in an option
+-- what is true of the content of an option
 pub some_decided : {X : Type 0} (P : X → Type 0) → ((x : X) → IsDecided (P x)) → (o : Option X) → IsDecided (IsSomeAnd o P)
 some_decided P each None = inr (λ h. h)
 some_decided P each (Some x) = each x

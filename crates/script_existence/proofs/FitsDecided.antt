@@ -73,7 +73,7 @@ mutual
   elements_decided schema given shape values.Nothing = inl tt
   elements_decided schema given shape (First' _ v _ vs) = both_or_not (value_decided schema given shape v) (elements_decided schema given shape vs)
 
-  -- values fit types, each its own, or do not
+  -- values fit their types, or do not
   pub fits_decided : (schema : Schema) (given : List ParamRow) (fields : List ParamRow) (vs : WrittenValues) → IsDecided (EachFits schema given fields vs)
   fits_decided schema given [] values.Nothing = inl tt
   fits_decided schema given (field ∷ fields) values.Nothing = inr (λ h. h)

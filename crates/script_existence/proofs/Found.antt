@@ -1,16 +1,16 @@
--- What is found, or that nothing is.
+-- What is found, or that nothing is found.
 use Rattle.std.proofs.Common.{Option, Some, None, option_map, option_and_then}
 
--- this is found; or nothing is that holds
+-- this is found; or nothing is found that has the property
 abbrev pub Finds : {X : Type 0} → (X → Type 0) → Option X → Type 0
 Finds {X} Holds None = (x : X) → ¬ Holds x
 Finds {X} Holds (Some x) = Holds x
 
--- this stands at the front, and that is left after it
+-- this is at the start, and that is left after it
 abbrev pub AtFront : {X Y : Type 0} → (X → Y → Y → Type 0) → Y → X × Y → Type 0
 AtFront Holds from found = Holds found.0 from found.1
 
--- what is found for a part tells what is found for the whole
+-- what is found for a part decides what is found for the whole
 pub finds_as : {X Z : Type 0} (Part : X → Type 0) (Whole : Z → Type 0) (f : X → Z)
     → ((x : X) → Part x → Whole (f x)) → (((x : X) → ¬ Part x) → (z : Z) → ¬ Whole z)
     → (o : Option X) → Finds Part o → Finds Whole (option_map f o)

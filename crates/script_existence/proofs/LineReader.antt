@@ -1,4 +1,4 @@
--- What a line says, as a function; so each line says something, and the lines of each text are read.
+-- The reading of a line, as a function; so each line has a reading, and the lines of each text have readings.
 use Rattle.std.proofs.Common.{◌≡◌, ℕ, ◌≤◌, ltb, ◌==◌, Bool, true, false, List, [], ◌∷◌, length, map, Option, Some, None, option_and_then, inl, inr, refl, sym, ap, ◌∙◌, subst}
 use Rattle.std.proofs.lemmas.Bool.{eqb-true, eqb-false, ltb-true, ltb-false}
 use denote.RawPtr.{null_ptr}
@@ -15,31 +15,31 @@ use Rattle.script_existence.proofs.Found.{Finds, finds_then, finds_also}
 use Rattle.script_existence.proofs.TokenReader.{read_tokens, tokens_find}
 use Rattle.script_existence.proofs.StatementReader.{read_statement, statement_finds}
 
--- the statement that a line is
+-- the statement of a line
 abbrev statement_of : List ℕ → Option Statement
 statement_of line = option_and_then read_statement (read_tokens line)
 
--- whether the first byte that is not blank is none, or begins a comment
+-- whether all bytes are blank, or the first that is not blank begins a comment
 abbrev is_silent : Option ℕ → Bool
 is_silent None = true
 is_silent (Some b) = b == 35
 
--- that the line is this statement, with its box at one place; or that it is none
+-- the line is this statement, with its box at one place; or it is not a statement
 abbrev said : Option Statement → LineReading
 said None = reading.NoStatement
 said (Some s) = reading.Statement (record { ptr = null_ptr; alloc = record { memory = record { seal = tt } }; value = s })
 
--- what a line says that is too long or not, and is silent or not
+-- the reading of a line, by whether it is too long and whether it is silent
 abbrev reading_by : Bool → Bool → List ℕ → LineReading
 reading_by true silent line = reading.TooLong
 reading_by false true line = reading.Silent
 reading_by false false line = said (statement_of line)
 
--- what a line says
+-- the reading of a line
 abbrev pub reading_of : List ℕ → LineReading
 reading_of line = reading_by (ltb max_line_len (length line)) (is_silent (first_mark line)) line
 
--- what the lines of a text say
+-- the readings of the lines of a text
 abbrev pub readings_of : List ℕ → List LineReading
 readings_of text = map reading_of (lines_of text)
 

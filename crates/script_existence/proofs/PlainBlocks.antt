@@ -86,7 +86,7 @@ reply_plain : (schema : Schema) (block : BlockContext) (s : Statement) → optio
 reply_plain schema block (forms.Return vs) = ap (λ (ts : Terms). Some ts) (terms_plain schema (unwrap_or (types_of schema block (forms.Return vs)) []) vs)
 reply_plain schema block s = refl
 
--- what comes of each statement is kept, and so is the list of it
+-- the result of each statement is kept, and so is the list of results
 kept_one : {X : Type 0} (f : X → X) (o : Option X) (xs : List X) → map f (cons_option o xs) ≡ cons_option (option_map f o) (map f xs)
 kept_one f None xs = refl
 kept_one f (Some x) xs = refl

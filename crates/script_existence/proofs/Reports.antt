@@ -1,4 +1,4 @@
--- The findings of a text are listed, so there is the report of the rules that it breaks.
+-- The findings of a text are listed, so the report of the rules that it breaks exists.
 use Rattle.std.proofs.Common.{◌≡◌, ◌≢◌, ℕ, ◌+◌, List, [], ◌∷◌, map, take, drop, slice_get, Contains, inl, inr, refl, ap}
 use Rattle.ipdl_base.specs.declared.finding.Finding.{Finding}
 use Rattle.ipdl_base.specs.declared.finding.Place.{Place}
@@ -54,7 +54,7 @@ by_lines schema readings =
     of_some readings (λ i x f. IsBrokenAt schema readings f i x)
     (λ i x. of_place (line_place (i + 1)) (λ r. LineBreaks schema r (statements (take i readings)) x (statements (drop (i + 1) readings))) (line_listed schema (statements (take i readings)) x (statements (drop (i + 1) readings))))
 
--- and of the top
+-- and of the top protocol
 
 some_or_none : (managers : List ℕ) → IsDecided (managers ≢ [])
 some_or_none [] = inr (λ some. some refl)
@@ -69,7 +69,7 @@ by_top schema top =
     (λ f h. (h.0, h.1.0, h.1.1)) (λ f h. (h.0, (h.1, h.2)))
     (of_rule rule.NOT_A_TOP_PROTOCOL (λ place. (whole_place ≡ place) × HasManager schema top) (when (HasManager schema top) (manager_decided schema top) whole_place))
 
--- the report of what lines say
+-- the report on readings
 pub readings_have_reports : (schema : Schema) (top : ℕ) (readings : List LineReading) → (findings : List Finding) × report.IsReport (IsBroken schema top readings) findings
 readings_have_reports schema top readings = report_of (IsBroken schema top readings) (either_place (IsBrokenByTop schema top) (IsBrokenByLine schema readings) (by_top schema top) (by_lines schema readings))
 

@@ -16,7 +16,8 @@ use Rattle.handler_script.specs.Blocks.{opens, closes, answers, IsFollowed, Bloc
 use Rattle.handler_script.specs.Broken.{is_main, IsSecondMain, IsInside, BreaksBlocks, NamesNone, sent, is_misdirected, IsMissent, is_uncarried, IsUnsent, is_absent, is_no_actor, types_by, AreUnfit, ValuesBreak, is_unknown, IsMisplaced, IsNotAllowed, OpeningBreaks, BlockBreaks, InsideBreaks, MessageBreaks, StatementBreaks, LineBreaks}
 use Rattle.handler_script.specs.Knowing.{place_of}
 use Rattle.handler_script.specs.Mentions.{any_mentions, values_of, who_of, message_of, speaks_of}
-use Rattle.handler_script.specs.Messages.{named, sends, resolves, replies, is_constructor}
+use Rattle.ipdl_base.specs.Sides.{sends}
+use Rattle.handler_script.specs.Messages.{named, resolves, replies, is_constructor}
 use Rattle.handler_script.proofs.Standing.{at_place, in_block}
 use Rattle.report_existence.specs.Laws.{IsListed}
 use Rattle.report_existence.proofs.Finite.{either_or_not, both_or_not, not_or, same_places, no_place, one_place, either_place, when}
@@ -86,16 +87,16 @@ allowed_decided message answered b s below = either_or_not (is_true (speaks_of (
 
 -- Rules
 
--- the one rule, where something holds
+-- the one rule, if something is true
 rule_when : (rule : Rule) (Fact : Type 0) → IsDecided Fact → IsListed (λ r. (r ≡ rule) × Fact)
 rule_when rule Fact d = same_places (λ r. (rule ≡ r) × Fact) (λ r. (r ≡ rule) × Fact) (λ r h. (sym h.0, h.1)) (λ r h. (sym h.0, h.1)) (when Fact d rule)
 
--- what holds where something else does
+-- what is true if something else is
 where_holds : {X : Type 0} (Fact : Type 0) → IsDecided Fact → (P : X → Type 0) → IsListed P → IsListed (λ x. Fact × P x)
 where_holds Fact (inl h) P listed = same_places P (λ x. Fact × P x) (λ x p. (h, p)) (λ x p. p.1) listed
 where_holds Fact (inr none) P listed = no_place (λ x. Fact × P x) (λ x p. none p.0)
 
--- what holds of what is in an option
+-- what is true of the content of an option
 where_some : {X Y : Type 0} (Holds : X → Y → Type 0) → ((x : X) → IsListed (Holds x)) → (o : Option X) → IsListed (λ y. IsSomeAnd o (λ x. Holds x y))
 where_some Holds each None = no_place (λ y. ⊥) (λ y h. h)
 where_some Holds each (Some x) = each x

@@ -1,4 +1,4 @@
--- A text is a script, or breaks a rule, of which there is the report.
+-- A text has a script, or has a report that is not empty.
 use Rattle.std.proofs.Common.{◌⊎◌, ℕ, List, [], ◌∷◌, inl, inr, refl}
 use Rattle.ipdl_base.specs.declared.finding.Finding.{Finding}
 use Rattle.ipdl_base.specs.declared.schema.Schema.{Schema}

@@ -1,4 +1,4 @@
--- The tokens of a line, as a function, and that it finds them exactly where there are some.
+-- The tokens of a line, as a function, and that it finds them exactly if there are some.
 use Rattle.std.proofs.Common.{◌≡◌, ℕ, zero, suc, ◌+◌, ◌<◌, ◌≤◌, min, nat_lt, ◌==◌, Bool, true, false, if◌then◌else◌, pos, ◌-ℤ◌, List, [], ◌∷◌, take, drop, length, slice_index, Option, Some, None, unwrap_or, option_map, option_and_then, take_while, inl, inr, refl, sym, ap, ◌∙◌, subst, arith, length-drop}
 use Rattle.std.specs.List.{list_all, prefix_len}
 use Rattle.std.specs.Str.{IsUtf8, is_utf8}
@@ -10,7 +10,7 @@ use Rattle.script_reader.specs.declared.token.ScriptToken.{ScriptToken}
 use Rattle.script_reader.specs.declared.token.ScriptToken.TheVariants as token
 use Rattle.script_reader.specs.declared.token.TokenClass.{TokenClass}
 use Rattle.script_reader.specs.declared.token.TokenClass.TheVariants as class
-use Rattle.script_reader.specs.Tokens.{is_blank, is_digit, behind, value_of, max_count, beyond, IsNumber, hex_at, character_at, InSequence, InQuotes, hex_byte, escape, if_ascii, escaped_at, class_of, IsTokenOf, IsToken, AreTokens}
+use Rattle.script_reader.specs.Tokens.{is_blank, is_digit, following, value_of, max_count, beyond, IsNumber, hex_at, character_at, InSequence, InQuotes, hex_byte, escape, if_ascii, escaped_at, class_of, IsTokenOf, IsToken, AreTokens}
 use Rattle.script_reader.proofs.Begins.{word_begins, one_token}
 use Rattle.script_reader.proofs.Sequences.{quote_no_character, quote_no_digits, none_in_quotes, one_in_quotes}
 use Rattle.script_existence.proofs.Found.{Finds, AtFront, finds_as, finds_then}
@@ -19,9 +19,9 @@ use Rattle.script_existence.proofs.Found.{Finds, AtFront, finds_as, finds_then}
 
 abbrev number_by : ℕ → List ℕ → List ℕ → Option (ℕ × List ℕ)
 number_by limit from [] = None
-number_by limit from (d ∷ digits) = Some (min (value_of (d ∷ digits)) limit, behind is_digit from)
+number_by limit from (d ∷ digits) = Some (min (value_of (d ∷ digits)) limit, following is_digit from)
 
--- the number that digits at the front spell, or the limit where it is above that, and what is left
+-- the number that digits at the start spell, or the limit if the number is above it, and what is left
 abbrev read_number : ℕ → List ℕ → Option (ℕ × List ℕ)
 read_number limit from = number_by limit from (take_while is_digit from)
 
@@ -38,7 +38,7 @@ number_finds limit from = number_by-finds limit from (take_while is_digit from) 
 
 -- Bytes in quotes
 
--- a byte at the front, and what is left
+-- a byte at the start, and what is left
 abbrev pub ByteReader : Type 0
 ByteReader = List ℕ → Option (ℕ × List ℕ)
 
@@ -49,7 +49,7 @@ abbrev pub bytes_by : (List ℕ → List ℕ × List ℕ) → List ℕ → Optio
 bytes_by more from None = ([], from)
 bytes_by more from (Some found) = one_more found.0 (more found.1)
 
--- the bytes at the front, each as `at` finds it, at most so many; and what is left
+-- the bytes at the start, each as `at` finds it, at most a given number; and what is left
 abbrev pub read_bytes : ByteReader → ℕ → List ℕ → List ℕ × List ℕ
 read_bytes at zero from = ([], from)
 read_bytes at (suc n) from = bytes_by (read_bytes at n) from (at from)
@@ -58,7 +58,7 @@ read_bytes at (suc n) from = bytes_by (read_bytes at n) from (at from)
 abbrev Shortens : ByteReader → Type 0
 Shortens at = (from : List ℕ) (b : ℕ) (to : List ℕ) → at from ≡ Some (b, to) → length to < length from
 
--- these bytes are found, as far as more are
+-- these bytes are found, and no more
 abbrev FindsAll : ByteReader → List ℕ → List ℕ × List ℕ → Type 0
 FindsAll at from found = InSequence at found.0 from found.1 × (at found.1 ≡ None)
 
@@ -141,9 +141,9 @@ character_shortens (c ∷ rest) b to e = elim (cases_Bool (c == 34)) [
 abbrev as_text : List ℕ × List ℕ → Option (ScriptToken × List ℕ)
 as_text found = if is_utf8 found.0 then Some (token.Text found.0, found.1) else None
 
--- the token of this class at the front, and what is left
+-- the token of this class at the start, and what is left
 abbrev token_of : TokenClass → List ℕ → Option (ScriptToken × List ℕ)
-token_of class.Word from = Some (token.Word (take_while is_word_byte from), behind is_word_byte from)
+token_of class.Word from = Some (token.Word (take_while is_word_byte from), following is_word_byte from)
 token_of class.Param from = option_map (λ found. (token.Param found.0, found.1)) (read_number max_count (drop 1 from))
 token_of class.Index from = option_map (λ found. (token.Index found.0, found.1)) (read_number max_count (drop 1 from))
 token_of class.Negative from = option_map (λ found. (token.Number (pos 0 -ℤ pos found.0), found.1)) (read_number beyond (drop 1 from))
@@ -153,7 +153,7 @@ token_of class.Bytes from = option_map (λ found. (token.Bytes found.0, found.1)
 token_of class.Mark from = Some (token.Mark (slice_index from 0), drop 1 from)
 token_of class.Other from = None
 
--- the token at the front, and what is left
+-- the token at the start, and what is left
 abbrev read_token : List ℕ → Option (ScriptToken × List ℕ)
 read_token from = token_of (class_of from) from
 
@@ -181,8 +181,8 @@ token_finds from = token_of-finds (class_of from) from
 
 -- a token takes some of the line
 
-behind_shorter : (test : ℕ → Bool) (from : List ℕ) → length (behind test from) + prefix_len test from ≡ length from
-behind_shorter test from = let within = prefix_len-le-length test from in omega (arith, length-drop (prefix_len test from) from)
+after_shorter : (test : ℕ → Bool) (from : List ℕ) → length (following test from) + prefix_len test from ≡ length from
+after_shorter test from = let within = prefix_len-le-length test from in omega (arith, length-drop (prefix_len test from) from)
 
 sequence_shorter : (at : ByteReader) → Shortens at → (bytes from to : List ℕ) → InSequence at bytes from to → length to ≤ length from
 sequence_shorter at shortens [] from to s = omega (arith, ap length s)
@@ -199,10 +199,10 @@ digits_shorter limit n from to h = some_digits (prefix_len is_digit from) refl
   where
     some_digits : (k : ℕ) → prefix_len is_digit from ≡ k → length to < length from
     some_digits zero e = absurd (h.some (ap (λ m. take m from) e))
-    some_digits (suc k) e = omega (arith, behind_shorter is_digit from, ap length h.rest)
+    some_digits (suc k) e = omega (arith, after_shorter is_digit from, ap length h.rest)
 
 token_of-shorter : (k : TokenClass) (b : ℕ) (bs : List ℕ) → class_of (b ∷ bs) ≡ k → (t : ScriptToken) (to : List ℕ) → IsTokenOf k t (b ∷ bs) to → length to ≤ length bs
-token_of-shorter class.Word b bs is t to h = let some = word_begins (b ∷ bs) is in omega (arith, behind_shorter is_word_byte (b ∷ bs), ap length h.1)
+token_of-shorter class.Word b bs is t to h = let some = word_begins (b ∷ bs) is in omega (arith, after_shorter is_word_byte (b ∷ bs), ap length h.1)
 token_of-shorter class.Param b bs is t to h = let less = digits_shorter max_count h.0 bs to h.2 in omega arith
 token_of-shorter class.Index b bs is t to h = let less = digits_shorter max_count h.0 bs to h.2 in omega arith
 token_of-shorter class.Negative b bs is t to h = let less = digits_shorter beyond h.0 bs to h.2 in omega arith
@@ -218,14 +218,14 @@ token_shorter t (b ∷ bs) to h = let shorter = token_of-shorter (class_of (b �
 
 -- Lines
 
-abbrev tokens_behind : (List ℕ → Option (List ScriptToken)) → ScriptToken × List ℕ → Option (List ScriptToken)
-tokens_behind more found = option_map (λ ts. found.0 ∷ ts) (more found.1)
+abbrev tokens_after : (List ℕ → Option (List ScriptToken)) → ScriptToken × List ℕ → Option (List ScriptToken)
+tokens_after more found = option_map (λ ts. found.0 ∷ ts) (more found.1)
 
 abbrev tokens_by : (List ℕ → Option (List ScriptToken)) → List ℕ → Bool → Option (List ScriptToken)
 tokens_by more line true = Some []
-tokens_by more line false = option_and_then (tokens_behind more) (read_token (behind is_blank line))
+tokens_by more line false = option_and_then (tokens_after more) (read_token (following is_blank line))
 
--- the tokens of a line, where there are fewer bytes
+-- the tokens of a line with fewer bytes than a given number
 abbrev tokens_below : ℕ → List ℕ → Option (List ScriptToken)
 tokens_below zero line = None
 tokens_below (suc n) line = tokens_by (tokens_below n) line (list_all is_blank line)
@@ -238,33 +238,33 @@ abbrev AreTokensOf : List ℕ → List ScriptToken → Type 0
 AreTokensOf line ts = AreTokens ts line
 
 -- what is not blank has a first token
-no_tokens : (line : List ℕ) → list_all is_blank line ≡ false → ((found : ScriptToken × List ℕ) → ¬ IsToken found.0 (behind is_blank line) found.1) → (ts : List ScriptToken) → ¬ AreTokens ts line
+no_tokens : (line : List ℕ) → list_all is_blank line ≡ false → ((found : ScriptToken × List ℕ) → ¬ IsToken found.0 (following is_blank line) found.1) → (ts : List ScriptToken) → ¬ AreTokens ts line
 no_tokens line some none [] h = true≢false (sym h ∙ some)
 no_tokens line some none (t ∷ ts) h = none (t, h.0) h.1
 
-no_more : (line : List ℕ) (t : ScriptToken) (to : List ℕ) → list_all is_blank line ≡ false → IsToken t (behind is_blank line) to → ((ts : List ScriptToken) → ¬ AreTokens ts to) → (ts : List ScriptToken) → ¬ AreTokens ts line
+no_more : (line : List ℕ) (t : ScriptToken) (to : List ℕ) → list_all is_blank line ≡ false → IsToken t (following is_blank line) to → ((ts : List ScriptToken) → ¬ AreTokens ts to) → (ts : List ScriptToken) → ¬ AreTokens ts line
 no_more line t to some is none [] h = true≢false (sym h ∙ some)
 no_more line t to some is none (u ∷ us) h =
     let P : List ℕ → Type 0 = λ l. AreTokens us l in
-    none us (subst P (one_token u t (behind is_blank line) h.0 to h.1 is).1 h.2)
+    none us (subst P (one_token u t (following is_blank line) h.0 to h.1 is).1 h.2)
 
 tokens_by-find : (n : ℕ) → ((line : List ℕ) → length line < n → Finds (AreTokensOf line) (tokens_below n line))
     → (line : List ℕ) → length line < suc n → (blank : Bool) → list_all is_blank line ≡ blank → Finds (AreTokensOf line) (tokens_by (tokens_below n) line blank)
 tokens_by-find n more line below true e = e
 tokens_by-find n more line below false e =
-    finds_then (AtFront IsToken (behind is_blank line)) (AreTokensOf line) (tokens_behind (tokens_below n))
+    finds_then (AtFront IsToken (following is_blank line)) (AreTokensOf line) (tokens_after (tokens_below n))
     (λ found is.
-    let shorter = token_shorter found.0 (behind is_blank line) found.1 is in
+    let shorter = token_shorter found.0 (following is_blank line) found.1 is in
     finds_as (AreTokensOf found.1) (AreTokensOf line) (λ ts. found.0 ∷ ts) (λ ts h. (found.1, is, h)) (no_more line found.0 found.1 e is) (tokens_below n found.1)
-    (more found.1 (omega (arith, behind_shorter is_blank line))))
+    (more found.1 (omega (arith, after_shorter is_blank line))))
     (no_tokens line e)
-    (read_token (behind is_blank line))
-    (token_finds (behind is_blank line))
+    (read_token (following is_blank line))
+    (token_finds (following is_blank line))
 
 tokens_below-find : (n : ℕ) (line : List ℕ) → length line < n → Finds (AreTokensOf line) (tokens_below n line)
 tokens_below-find zero line below = absurd (omega arith)
 tokens_below-find (suc n) line below = tokens_by-find n (tokens_below-find n) line below (list_all is_blank line) refl
 
--- the tokens are found exactly where there are some
+-- the tokens are found exactly if there are some
 pub tokens_find : (line : List ℕ) → Finds (λ ts. AreTokens ts line) (read_tokens line)
 tokens_find line = tokens_below-find (suc (length line)) line (omega arith)

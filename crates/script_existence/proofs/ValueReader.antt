@@ -1,4 +1,4 @@
--- The value at the front of tokens, as a function, and that it finds one exactly where there is one.
+-- The value at the start of tokens, as a function, and that it finds a value exactly if there is one.
 use Rattle.std.proofs.Common.{◌≡◌, ℕ, zero, suc, ◌<◌, ◌==◌, if◌then◌else◌, List, [], ◌∷◌, drop, length, Option, Some, None, option_map, option_and_then, inl, inr, refl, sym, ap, ◌∙◌, subst, arith}
 use Rattle.std.specs.Prelude.{codes}
 use Rattle.std.specs.Str.{bytes_eq}
@@ -28,7 +28,7 @@ use Rattle.script_existence.proofs.Found.{Finds, AtFront, finds_as, finds_then}
 abbrev single_by : {X : Type 0} → Option X → List ScriptToken → Option (X × List ScriptToken)
 single_by o to = option_map (λ x. (x, to)) o
 
--- what the first token stands for, and what is left
+-- what the first token means, and what is left
 abbrev pub read_single : {X : Type 0} → (ScriptToken → Option X) → List ScriptToken → Option (X × List ScriptToken)
 read_single read [] = None
 read_single read (t ∷ to) = single_by (read t) to
@@ -43,7 +43,7 @@ pub single_finds : {X : Type 0} (read : ScriptToken → Option X) (from : List S
 single_finds read [] = λ found h. absurd (let is = h.1 in let no : ⊥ = cc in no)
 single_finds read (t ∷ to) = single_by-finds read t to (read t) refl
 
--- a mark at the front, and what is left
+-- a mark at the start, and what is left
 abbrev pub read_mark : ℕ → List ScriptToken → Option (Unit {0} × List ScriptToken)
 read_mark b (token.Mark c ∷ to) = if c == b then Some (tt, to) else None
 read_mark b _ = None
@@ -76,11 +76,11 @@ value_by r from begin.Atom = option_map (λ found. (written.Atom found.0, found.
 abbrev value_with : Readers → List ScriptToken → Option (WrittenValue × List ScriptToken)
 value_with r from = value_by r from (begin_of from)
 
-abbrev values_behind : Readers → Bracket → WrittenValue × List ScriptToken → Option (WrittenValues × List ScriptToken)
-values_behind r c first = option_map (λ found. (First' one_box first.0 one_box found.0, found.1)) (r.more c first.1)
+abbrev values_after : Readers → Bracket → WrittenValue × List ScriptToken → Option (WrittenValues × List ScriptToken)
+values_after r c first = option_map (λ found. (First' one_box first.0 one_box found.0, found.1)) (r.more c first.1)
 
 abbrev values_at : Readers → Bracket → List ScriptToken → Option (WrittenValues × List ScriptToken)
-values_at r c from = option_and_then (values_behind r c) (value_with r from)
+values_at r c from = option_and_then (values_after r c) (value_with r from)
 
 abbrev listed_by : Readers → Bracket → List ScriptToken → Option (Unit {0} × List ScriptToken) → Option (WrittenValues × List ScriptToken)
 listed_by r c from (Some closed) = Some (values.Nothing, closed.1)
@@ -98,7 +98,7 @@ next_readers r = record {
   more = λ c from. more_by r c from (read_mark (closing c) from);
 }
 
--- the readers of fewer tokens than so many
+-- the readers of fewer tokens than a given number
 abbrev readers_below : ℕ → Readers
 readers_below zero = record { value = λ from. None; listed = λ c from. None; more = λ c from. None }
 readers_below (suc n) = next_readers (readers_below n)
@@ -154,7 +154,7 @@ opens_at (t ∷ rest) = opens_with t rest
 opens_as : (from : List ScriptToken) (form : ValueForm) → begin_of from ≡ form → Opens form from
 opens_as from form e = let P : ValueForm → Type 0 = λ f. Opens f from in subst P e (opens_at from)
 
--- the readers find what there is, in fewer tokens than so many
+-- the readers find what there is, in fewer tokens than a given number
 record FindBelow (n : ℕ) (r : Readers) : Type 0 where
   value : (from : List ScriptToken) → length from < n → Finds (AtFront grammar.value from) (r.value from)
   listed : (c : Bracket) (from : List ScriptToken) → length from < n → Finds (AtFront (grammar.listed c) from) (r.listed c from)
@@ -202,7 +202,7 @@ module _ (n : ℕ) (r : Readers) (find : FindBelow n r) where
   listed_by-finds : (c : Bracket) (from : List ScriptToken) → length from < suc n → (o : Option (Unit {0} × List ScriptToken)) → Finds (AtFront (marked (closing c)) from) o → Finds (AtFront (grammar.listed c) from) (listed_by r c from o)
   listed_by-finds c from below (Some closed) h = h
   listed_by-finds c from below None unclosed =
-      finds_then (AtFront grammar.value from) (AtFront (grammar.listed c) from) (values_behind r c)
+      finds_then (AtFront grammar.value from) (AtFront (grammar.listed c) from) (values_after r c)
       (λ first h.
       let shorter = value_shorter first.0 from first.1 h in
       finds_as (AtFront (grammar.more c) first.1) (AtFront (grammar.listed c) from) (λ found. (First' one_box first.0 one_box found.0, found.1)) (λ found k. (first.1, h, k))
@@ -219,7 +219,7 @@ module _ (n : ℕ) (r : Readers) (find : FindBelow n r) where
       finds_then (AtFront (marked 44) from) (AtFront (grammar.more c) from) (λ comma. values_at r c comma.1)
       (λ comma at.
       let size = ap length at in
-      finds_then (AtFront grammar.value comma.1) (AtFront (grammar.more c) from) (values_behind r c)
+      finds_then (AtFront grammar.value comma.1) (AtFront (grammar.more c) from) (values_after r c)
       (λ first h.
       let shorter = value_shorter first.0 comma.1 first.1 h in
       finds_as (AtFront (grammar.more c) first.1) (AtFront (grammar.more c) from) (λ found. (First' one_box first.0 one_box found.0, found.1)) (λ found k. (comma.1, at, (first.1, h, k)))
@@ -244,6 +244,6 @@ readers_find : (n : ℕ) → FindBelow n (readers_below n)
 readers_find zero = record { value = λ from below. absurd (omega arith); listed = λ c from below. absurd (omega arith); more = λ c from below. absurd (omega arith) }
 readers_find (suc n) = next_find n (readers_below n) (readers_find n)
 
--- the values are found exactly where there are some
+-- the values are found exactly if there are some
 pub listed_finds : (c : Bracket) (from : List ScriptToken) → Finds (AtFront (grammar.listed c) from) (read_listed c from)
 listed_finds c from = (readers_find (suc (length from))).listed c from (omega arith)

@@ -55,6 +55,6 @@ escape = refl
 half : reading_of (codes "return (h\"0\")") ≡ reading.NoStatement
 half = refl
 
--- who is no name
+-- actors that are not names
 no_name : reading_of (codes "keep top") ≡ reading.NoStatement
 no_name = refl

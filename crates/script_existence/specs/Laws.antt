@@ -1,4 +1,4 @@
--- What there is by the definitions of handler scripts, for every line, text, schema and top protocol.
+-- What exists by the definitions of handler scripts, for every line, text, schema and top protocol.
 use Rattle.std.specs.Prelude.{◌≢◌, ℕ, ◌⊎◌, List, []}
 use Rattle.ipdl_base.specs.declared.finding.Finding.{Finding}
 use Rattle.ipdl_base.specs.declared.schema.Schema.{Schema}
@@ -8,23 +8,23 @@ use Rattle.handler_script.specs.declared.script.Script.{Script}
 use Rattle.handler_script.specs.Broken.{IsReport}
 use Rattle.handler_script.specs.ScriptOf.{IsScriptOf}
 
--- Each line says something: nothing, a statement, no statement, or that it is too long.
+-- Each line has a reading: it is silent, a statement, no statement, or too long.
 abbrev pub LinesHaveReadings : Type 0
 LinesHaveReadings = (line : List ℕ) → (reading : LineReading) × Says line reading
 
--- The lines of each text are read.
+-- The lines of each text have readings.
 abbrev pub TextsHaveReadings : Type 0
 TextsHaveReadings = (text : List ℕ) → (readings : List LineReading) × IsReading text readings
 
--- For each text, schema and top protocol there is the report of the rules that the text breaks.
+-- For each text, schema and top protocol there is a report of the rules that the text breaks.
 abbrev pub ReportsExist : Type 0
 ReportsExist = (text : List ℕ) (schema : Schema) (top : ℕ) → (findings : List Finding) × IsReport text schema top findings
 
--- the text is a script
+-- the text has a script
 abbrev pub HasScript : List ℕ → Schema → ℕ → Type 0
 HasScript text schema top = (script : Script) × IsScriptOf text schema top script
 
--- the text breaks a rule, and this is the report
+-- the text has a report that is not empty
 abbrev pub HasFault : List ℕ → Schema → ℕ → Type 0
 HasFault text schema top = (findings : List Finding) × IsReport text schema top findings × (findings ≢ [])
 

@@ -1,18 +1,18 @@
-//! The laws of what a handler script has: readings, a report or a script.
+//! The laws that a handler script has readings, a report, and a script or findings.
 
 ghost use Rattle.script_existence.specs.Laws.{LinesHaveReadings, TextsHaveReadings, ReportsExist, ScriptsExist};
 
-/// The law of lines: each line says something.
+/// The law of lines: each line has a reading.
 pub fn lines_have_readings()
     ensures { LinesHaveReadings }
 {}
 
-/// The law of texts: the lines of each text are read.
+/// The law of texts: the lines of each text have readings.
 pub fn texts_have_readings()
     ensures { TextsHaveReadings }
 {}
 
-/// The law of reports: for each text, schema and top protocol there is the report of the rules that the
+/// The law of reports: for each text, schema and top protocol there is a report of the rules that the
 /// text breaks.
 pub fn reports_exist()
     ensures { ReportsExist }

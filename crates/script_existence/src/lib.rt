@@ -1,5 +1,5 @@
-//! Laws of what there is for a handler script: each line has a reading, each text has the report of the
-//! rules that it breaks, and a script or a report that is not empty. No function that runs.
+//! Laws of existence for handler scripts: each line has a reading; each text has a report of the rules
+//! that it breaks, and a script or a report that is not empty. No function here runs.
 #![tactic(auto)]
 
 mod laws;

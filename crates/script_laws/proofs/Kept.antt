@@ -29,7 +29,7 @@ use Rattle.script_laws.proofs.Alike.{types_alike, action_alike, reply_alike, spe
 abbrev pub plain_lines : List LineReading → List LineReading
 plain_lines lines = map plain_reading lines
 
--- What is told of a statement
+-- What is known of a statement
 
 opens_alike : (s : Statement) → opens (plain_statement s) ≡ opens s
 opens_alike (forms.Send w c) = refl
@@ -63,7 +63,7 @@ sent_alike : (message : Option MessageRow) (s : Statement) → sent message (pla
 sent_alike message (forms.Send w c) = refl
 sent_alike message s = refl
 
--- What is told of statements
+-- What is known of statements
 
 abbrev plain_all : List Statement → List Statement
 plain_all ss = map plain_statement ss
@@ -105,7 +105,7 @@ held_alike : (P Q : Statement → List Statement → Type 0) → ((first : State
 held_alike P Q same None = refl
 held_alike P Q same (Some p) = same p.0 p.1
 
--- what holds of the block in which plain statements stand holds where these stand
+-- what is true of the block that plain statements are in is true of the block of these statements
 block_alike : (P Q : Statement → List Statement → Type 0) → ((first : Statement) (above : List Statement) → P (plain_statement first) (plain_all above) ≡ Q first above) → (ss : List Statement) → IsInBlock (plain_all ss) P ↔ IsInBlock ss Q
 block_alike P Q same ss =
     let path : IsSomeAnd (place_of (plain_all ss)) (λ p. P p.0 p.1) ≡ IsSomeAnd (place_of ss) (λ p. Q p.0 p.1) = (λ i. IsSomeAnd (places_alike None ss i) (λ p. P p.0 p.1)) ∙ held_alike P Q same (place_of ss) in
@@ -186,7 +186,7 @@ line_again : (schema : Schema) (r : Rule) (before : List Statement) (x : LineRea
 line_again schema r before (line.Statement held) after h = statement_again schema r before held.value after h
 line_again schema r before x after h = h
 
--- the statements before and behind a line
+-- the statements before and after a line
 at_alike : (schema : Schema) (lines : List LineReading) (f : Finding) (index : ℕ) (x : LineReading)
     → IsBrokenAt schema (plain_lines lines) f index (plain_reading x) ≡ ((line_place (index + 1) ≡ f.place) × LineBreaks schema f.rule (plain_all (statements (take index lines))) (plain_reading x) (plain_all (statements (drop (index + 1) lines))))
 at_alike schema lines f index x =
@@ -197,7 +197,7 @@ mapped : (o : Option LineReading) (y : LineReading) → option_map plain_reading
 mapped None y e = absurd (let no_one : ⊥ = cc in no_one)
 mapped (Some x) y e = (x, refl, (let same : plain_reading x ≡ y = cc in same))
 
--- what lines break their plain forms break
+-- what lines break, their plain forms break
 pub broken_plain : (schema : Schema) (top : ℕ) (lines : List LineReading) (f : Finding) → IsBroken schema top lines f → IsBroken schema top (plain_lines lines) f
 broken_plain schema top lines f (inl h) = inl h
 broken_plain schema top lines f (inr h) =

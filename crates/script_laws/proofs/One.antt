@@ -17,7 +17,7 @@ use Rattle.handler_script.specs.ScriptOf.{IsScriptOf, blocks_of}
 use Rattle.script_laws.specs.Laws.{OneAnswer}
 use Rattle.script_laws.proofs.Kept.{plain_lines, broken_plain, broken_again, blocks_kept}
 
--- what is read of a text is one list of readings, up to where boxes lie
+-- a text has one list of readings, up to where boxes lie
 read_alike : (lines : List (List ℕ)) (xs ys : List LineReading) → AreRead lines xs → AreRead lines ys → plain_lines xs ≡ plain_lines ys
 read_alike [] [] [] h k = refl
 read_alike [] [] (y ∷ ys) h k = absurd k

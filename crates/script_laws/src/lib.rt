@@ -1,4 +1,4 @@
-//! The law of handler scripts: a text has at most one answer (docs/scripts.md). No function that runs.
+//! The law of handler scripts: a text has at most one answer (docs/scripts.md). No function here runs.
 #![tactic(auto)]
 
 mod laws;

@@ -1,4 +1,4 @@
--- What one more block, and one more request, make of a table of blocks.
+-- How one more block, and one more request, change a table of blocks.
 use Rattle.std.proofs.Common.{◌≡◌, ◌∙◌, ℕ, zero, suc, ◌+◌, ◌-◌, ◌<◌, ◌≤◌, ◌==◌, Bool, true, false, ◌&&◌, cond, List, [], ◌∷◌, ◌++◌, map, filter, take, length, Option, Some, None, slice_get, refl, sym, ap, subst, arith, inl, inr}
 use Rattle.std.specs.Prelude.{count_by, min, nat_eq, nat_lt, if◌then◌else◌, option_and_then, option_map}
 use Rattle.std.proofs.lemmas.Bool.Decides.{eqb_tells}
@@ -11,11 +11,12 @@ use Rattle.std.proofs.lemmas.Option.{slice_get-map}
 use Rattle.findings.proofs.Indexed.{slice_get-left, slice_get-last}
 use Rattle.ipdl_base.specs.declared.kinds.Side.{Side}
 use Rattle.handler_script.specs.declared.action.Block.{Block}
-use Rattle.handler_script.specs.Served.{is_number, is_side, serves}
+use Rattle.ipdl_base.specs.Lines.{same_side}
+use Rattle.handler_script.specs.Served.{is_number, serves}
 use Rattle.script_parts.specs.declared.blocks.BlockTable.{BlockTable}
-use Rattle.script_parts.specs.Tables.{count_of, IsTableOf, block_behind, listed_in, main_in, next_in, next_behind}
+use Rattle.script_parts.specs.Tables.{count_of, IsTableOf, block_after, listed_in, main_in, next_in, next_after}
 
--- what indices refer to is there where one more element follows
+-- what indices refer to is still there if one more element follows
 pub refer-push : {X : Type 0} (xs : List X) (x : X) (indices : List ℕ) (ys : List X) → map (slice_get xs) indices ≡ map Some ys → map (slice_get (xs ++ x ∷ [])) indices ≡ map Some ys
 refer-push xs x [] ys e = e
 refer-push xs x (i ∷ indices) [] e = absurd (let no : ⊥ = cc in no)
@@ -26,7 +27,7 @@ refer-push xs x (i ∷ indices) (y ∷ ys) e =
     let there = refer-push xs x indices ys more in
     cc
 
--- the index of the last element stands behind others
+-- the index of the last element, after others
 pub refer-last : {X : Type 0} (xs : List X) (x : X) (indices : List ℕ) (ys : List X) → map (slice_get xs) indices ≡ map Some ys → map (slice_get (xs ++ x ∷ [])) (indices ++ length xs ∷ []) ≡ map Some (ys ++ x ∷ [])
 refer-last xs x [] [] e = ap (λ o. o ∷ []) (slice_get-last xs x)
 refer-last xs x [] (y ∷ ys) e = absurd (let no : ⊥ = cc in no)
@@ -38,7 +39,7 @@ refer-last xs x (i ∷ indices) (y ∷ ys) e =
     let there = refer-last xs x indices ys more in
     cc
 
--- as many indices as elements that they refer to
+-- the number of indices is that of the elements that they refer to
 pub refer-length : {X : Type 0} (xs : List X) (indices : List ℕ) (ys : List X) → map (slice_get xs) indices ≡ map Some ys → length indices ≡ length ys
 refer-length xs [] [] e = refl
 refer-length xs [] (y ∷ ys) e = absurd (let no : ⊥ = cc in no)
@@ -53,7 +54,7 @@ refer-at xs (i ∷ indices) [] n e = absurd (let no : ⊥ = cc in no)
 refer-at xs (i ∷ indices) (y ∷ ys) zero e = let first : slice_get xs i ≡ Some y = cc in first
 refer-at xs (i ∷ indices) (y ∷ ys) (suc n) e = refer-at xs indices ys n (let more : map (slice_get xs) indices ≡ map Some ys = cc in more)
 
--- one more block, which does not serve or does
+-- one more block, which serves or does not
 pub filter-out : (p : Block → Bool) (blocks : List Block) (block : Block) → p block ≡ false → filter p (blocks ++ block ∷ []) ≡ filter p blocks
 filter-out p blocks block e = filter-append p blocks (block ∷ []) ∙ rw e (append-nil (filter p blocks))
 
@@ -73,8 +74,8 @@ count-other number other taken differs =
     let f = sum_by-cons (λ n. cond (n == other) 1 0) number taken in
     omega (arith, none, f)
 
--- the next of so many, behind one more request
-pub next-count : (count long : ℕ) → next_behind long (min count (long - 1)) ≡ min (suc count) (long - 1)
+-- the next position, after one more request
+pub next-count : (count long : ℕ) → next_after long (min count (long - 1)) ≡ min (suc count) (long - 1)
 next-count count long =
     let at = min count (long - 1) in
     elim (cases_Bool (nat_lt (suc at) long)) [
@@ -88,8 +89,8 @@ eqb-swap m n = elim (eqb_tells m n) [
   | inr differ ↦ differ.0 ∙ elim (eqb_tells n m) [ inl same ↦ absurd (differ.1 (sym same.1)) | inr other ↦ sym other.0 ]
 ]
 
--- A table behind one more block: of another side, ..
-pub no-block : (side : Side) (blocks : List Block) (block : Block) (table : BlockTable) → is_side block.side side ≡ false → IsTableOf blocks side [] table → IsTableOf (blocks ++ block ∷ []) side [] table
+-- A table after one more block: of another side, ..
+pub no-block : (side : Side) (blocks : List Block) (block : Block) (table : BlockTable) → same_side block.side side ≡ false → IsTableOf blocks side [] table → IsTableOf (blocks ++ block ∷ []) side [] table
 no-block side blocks block table other is = record {
   mains = rw (filter-out (serves side None) blocks block (serves-none None)) (refer-push blocks block (main_in table.main) (take 1 (filter (serves side None) blocks)) is.mains);
   listed = λ number. rw (filter-out (serves side (Some number)) blocks block (serves-none (Some number))) (refer-push blocks block (listed_in table.messages number) (filter (serves side (Some number)) blocks) (is.listed number));
@@ -105,9 +106,9 @@ none-of-messages side blocks block table main is number =
     rw (filter-out (serves side (Some number)) blocks block other) (refer-push blocks block (listed_in table.messages number) (filter (serves side (Some number)) blocks) (is.listed number))
   where
     other : serves side (Some number) block ≡ false
-    other = ap (λ handled. is_side block.side side && is_number handled (Some number)) main ∙ and-false (is_side block.side side)
+    other = ap (λ handled. same_side block.side side && is_number handled (Some number)) main ∙ and-false (same_side block.side side)
 
-pub first-main : (side : Side) (blocks : List Block) (block : Block) (table : BlockTable) → is_side block.side side ≡ true → block.handles ≡ None → table.main ≡ None → IsTableOf blocks side [] table → IsTableOf (blocks ++ block ∷ []) side [] (record table { main = Some (length blocks) })
+pub first-main : (side : Side) (blocks : List Block) (block : Block) (table : BlockTable) → same_side block.side side ≡ true → block.handles ≡ None → table.main ≡ None → IsTableOf blocks side [] table → IsTableOf (blocks ++ block ∷ []) side [] (record table { main = Some (length blocks) })
 first-main side blocks block table own main none is = record {
   mains = rw (filter-in (serves side None) blocks block serving, none-before (filter (serves side None) blocks) (subst (λ main. map (slice_get blocks) (main_in main) ≡ map Some (take 1 (filter (serves side None) blocks))) none is.mains)) (ap (λ o. o ∷ []) (slice_get-last blocks block));
   listed = none-of-messages side blocks block table main is;
@@ -121,7 +122,7 @@ first-main side blocks block table own main none is = record {
     none-before [] e = refl
     none-before (x ∷ found) e = absurd (let no : ⊥ = cc in no)
 
-pub later-main : (side : Side) (blocks : List Block) (block : Block) (table : BlockTable) → is_side block.side side ≡ true → block.handles ≡ None → (index : ℕ) → table.main ≡ Some index → IsTableOf blocks side [] table → IsTableOf (blocks ++ block ∷ []) side [] table
+pub later-main : (side : Side) (blocks : List Block) (block : Block) (table : BlockTable) → same_side block.side side ≡ true → block.handles ≡ None → (index : ℕ) → table.main ≡ Some index → IsTableOf blocks side [] table → IsTableOf (blocks ++ block ∷ []) side [] table
 later-main side blocks block table own main index some is = record {
   mains = rw (filter-in (serves side None) blocks block serving, first-stays (filter (serves side None) blocks) (subst (λ main. map (slice_get blocks) (main_in main) ≡ map Some (take 1 (filter (serves side None) blocks))) some is.mains)) (refer-push blocks block (main_in table.main) (take 1 (filter (serves side None) blocks)) is.mains);
   listed = none-of-messages side blocks block table main is;
@@ -136,7 +137,7 @@ later-main side blocks block table own main index some is = record {
     first-stays (x ∷ found) e = refl
 
 -- .. or for a message
-pub one-handler : (side : Side) (blocks : List Block) (block : Block) (table after : BlockTable) (number : ℕ) → is_side block.side side ≡ true → block.handles ≡ Some number → after.main ≡ table.main
+pub one-handler : (side : Side) (blocks : List Block) (block : Block) (table after : BlockTable) (number : ℕ) → same_side block.side side ≡ true → block.handles ≡ Some number → after.main ≡ table.main
     → ((n : ℕ) → listed_in after.messages n ≡ listed_in table.messages n ++ (if nat_eq n number then length blocks ∷ [] else [])) → ((n : ℕ) → next_in after.messages n ≡ next_in table.messages n)
     → IsTableOf blocks side [] table → IsTableOf (blocks ++ block ∷ []) side [] after
 one-handler side blocks block table after number own handles same listed next is = record {
@@ -149,7 +150,7 @@ one-handler side blocks block table after number own handles same listed next is
 }
   where
     no-main : serves side None block ≡ false
-    no-main = ap (λ handled. is_side block.side side && is_number handled None) handles ∙ and-false (is_side block.side side)
+    no-main = ap (λ handled. same_side block.side side && is_number handled None) handles ∙ and-false (same_side block.side side)
 
     serving : (n : ℕ) → nat_eq n number ≡ true → serves side (Some n) block ≡ true
     serving n same = rw (own, handles) (eq-eqb number n (sym (eqb-true n number same)))
@@ -157,16 +158,16 @@ one-handler side blocks block table after number own handles same listed next is
     other : (n : ℕ) → nat_eq n number ≡ false → serves side (Some n) block ≡ false
     other n differs = rw (own, handles) (eqb-swap number n ∙ differs)
 
--- behind one more request
+-- after one more request
 pub taken-more : (side : Side) (blocks : List Block) (taken : List ℕ) (table after : BlockTable) (number : ℕ) → after.main ≡ table.main → ((n : ℕ) → listed_in after.messages n ≡ listed_in table.messages n)
-    → ((n : ℕ) → next_in after.messages n ≡ (if nat_eq n number then next_behind (length (listed_in table.messages n)) (next_in table.messages n) else next_in table.messages n))
+    → ((n : ℕ) → next_in after.messages n ≡ (if nat_eq n number then next_after (length (listed_in table.messages n)) (next_in table.messages n) else next_in table.messages n))
     → IsTableOf blocks side taken table → IsTableOf blocks side (number ∷ taken) after
 taken-more side blocks taken table after number same listed next is = record {
   mains = rw same is.mains;
   listed = λ n. rw (listed n) (is.listed n);
   next = λ n. next n ∙ elim (cases_Bool (nat_eq n number)) [
-    | inl t ↦ ap (λ (b : Bool). cond b (next_behind (length (listed_in table.messages n)) (next_in table.messages n)) (next_in table.messages n)) t ∙ one-more n (eqb-true n number t)
-    | inr f ↦ ap (λ (b : Bool). cond b (next_behind (length (listed_in table.messages n)) (next_in table.messages n)) (next_in table.messages n)) f ∙ is.next n
+    | inl t ↦ ap (λ (b : Bool). cond b (next_after (length (listed_in table.messages n)) (next_in table.messages n)) (next_in table.messages n)) t ∙ one-more n (eqb-true n number t)
+    | inr f ↦ ap (λ (b : Bool). cond b (next_after (length (listed_in table.messages n)) (next_in table.messages n)) (next_in table.messages n)) f ∙ is.next n
         ∙ ap (λ (count : ℕ). min count (length (listed_in table.messages n) - 1)) (sym (count-other number n taken (eqb-swap number n ∙ f))) ∙ relisted n
   ];
 }
@@ -174,14 +175,14 @@ taken-more side blocks taken table after number same listed next is = record {
     relisted : (n : ℕ) → min (count_of n (number ∷ taken)) (length (listed_in table.messages n) - 1) ≡ min (count_of n (number ∷ taken)) (length (listed_in after.messages n) - 1)
     relisted n = ap (λ (indices : List ℕ). min (count_of n (number ∷ taken)) (length indices - 1)) (sym (listed n))
 
-    one-more : (n : ℕ) → n ≡ number → next_behind (length (listed_in table.messages n)) (next_in table.messages n) ≡ min (count_of n (number ∷ taken)) (length (listed_in after.messages n) - 1)
+    one-more : (n : ℕ) → n ≡ number → next_after (length (listed_in table.messages n)) (next_in table.messages n) ≡ min (count_of n (number ∷ taken)) (length (listed_in after.messages n) - 1)
     one-more n same =
         let counted : count_of n (number ∷ taken) ≡ suc (count_of n taken) = subst (λ m. count_of m (number ∷ taken) ≡ suc (count_of m taken)) (sym same) (count-same number taken) in
-        ap (next_behind (length (listed_in table.messages n))) (is.next n) ∙ next-count (count_of n taken) (length (listed_in table.messages n))
+        ap (next_after (length (listed_in table.messages n))) (is.next n) ∙ next-count (count_of n taken) (length (listed_in table.messages n))
         ∙ ap (λ (count : ℕ). min count (length (listed_in table.messages n) - 1)) (sym counted) ∙ relisted n
 
 -- the block that a table has next
-pub block-is : (side : Side) (blocks : List Block) (taken : List ℕ) (table : BlockTable) (number : ℕ) → IsTableOf blocks side taken table → option_and_then (slice_get blocks) (slice_get (listed_in table.messages number) (next_in table.messages number)) ≡ block_behind blocks side number taken
+pub block-is : (side : Side) (blocks : List Block) (taken : List ℕ) (table : BlockTable) (number : ℕ) → IsTableOf blocks side taken table → option_and_then (slice_get blocks) (slice_get (listed_in table.messages number) (next_in table.messages number)) ≡ block_after blocks side number taken
 block-is side blocks taken table number is =
     refer-at blocks (listed_in table.messages number) (filter (serves side (Some number)) blocks) (next_in table.messages number) (is.listed number)
     ∙ ap (slice_get (filter (serves side (Some number)) blocks)) (is.next number ∙ ap (λ long. min (count_of number taken) (long - 1)) (refer-length blocks (listed_in table.messages number) (filter (serves side (Some number)) blocks) (is.listed number)))

@@ -12,11 +12,11 @@ use Rattle.script_parts.specs.declared.blocks.MessageBlocks.{MessageBlocks}
 abbrev pub count_of : ℕ → List ℕ → ℕ
 count_of number taken = count_by (λ n. n == number) taken
 
--- the block that serves the next request of a message, behind those that were taken: that of its count, and else the last
-abbrev pub block_behind : List Block → Side → ℕ → List ℕ → Option Block
-block_behind blocks side number taken = slice_get (filter (serves side (Some number)) blocks) (min (count_of number taken) (length (filter (serves side (Some number)) blocks) - 1))
+-- the block that serves the next request of a message, after those that were taken: the one whose index is their number, or else the last
+abbrev pub block_after : List Block → Side → ℕ → List ℕ → Option Block
+block_after blocks side number taken = slice_get (filter (serves side (Some number)) blocks) (min (count_of number taken) (length (filter (serves side (Some number)) blocks) - 1))
 
--- the indices that are listed for a message, and which of them is next
+-- the indices that are listed for a message, and the position of the next
 abbrev pub listed_in : {S : Type 0} → IndexMap ℕ MessageBlocks S → ℕ → List ℕ
 listed_in messages number = option_map_or (λ message. message.blocks.items) (get nat_eq messages number) []
 
@@ -28,12 +28,12 @@ abbrev pub main_in : Option ℕ → List ℕ
 main_in None = []
 main_in (Some index) = index ∷ []
 
--- the next of so many is the one behind this one, if there is one
-abbrev pub next_behind : ℕ → ℕ → ℕ
-next_behind count at = if nat_lt (suc at) count then suc at else at
+-- the next position among this number of blocks: one further, but not past the last
+abbrev pub next_after : ℕ → ℕ → ℕ
+next_after count at = if nat_lt (suc at) count then suc at else at
 
--- A table is that of a side among blocks, of whose messages these requests were taken: it lists the blocks of each message
--- by their indices, and next is the one that serves the next request.
+-- The table of a side of a script with these blocks, after requests with these message numbers were taken. It lists the
+-- blocks of each message by index, and the next of them is the one that serves the next request.
 pub record IsTableOf (blocks : List Block) (side : Side) (taken : List ℕ) (table : BlockTable) : Type 0 where
   pub mains : map (slice_get blocks) (main_in table.main) ≡ map Some (take 1 (filter (serves side None) blocks))
   pub listed : (number : ℕ) → map (slice_get blocks) (listed_in table.messages number) ≡ map Some (filter (serves side (Some number)) blocks)

@@ -1,8 +1,11 @@
+//! A table that finds the block for each request.
+
 ghost use Rattle.std.specs.Prelude.{◌≡◌, ℕ, ◌∷◌, [], ◌++◌, ◌<◌, ◌^◌, List, Some, None, IfOk, OnOk, filter, length, nat_eq, if◌then◌else◌, option_and_then, slice_get};
 ghost use Rattle.handler_script.specs.declared.action.Block.{Block as ScriptBlock};
-ghost use Rattle.handler_script.specs.Served.{is_side, serves};
+ghost use Rattle.ipdl_base.specs.Lines.{same_side};
+ghost use Rattle.handler_script.specs.Served.{serves};
 ghost use Rattle.ipdl_base.specs.declared.kinds.Side.{Side as EndSide};
-ghost use Rattle.script_parts.specs.Tables.{IsTableOf, block_behind, listed_in, next_in, next_behind};
+ghost use Rattle.script_parts.specs.Tables.{IsTableOf, block_after, listed_in, next_in, next_after};
 
 use handler_script::{Block, Script};
 use indexmap::IndexMap;
@@ -10,8 +13,8 @@ use ipdl_base::Side;
 use std::alloc::{AllocError, Global};
 
 /// The blocks of a side of a script, by the messages that they handle, and which of them serves the
-/// next request of each: that of its count, and the last one for all requests behind. Blocks are
-/// told by their indices in the script.
+/// next request of each message. The first request is served by the first block, and so on; the last
+/// block serves all further requests. A block is given by its index in the script.
 #[derive(Drop)]
 pub struct BlockTable {
     main: Option<u32>,
@@ -26,8 +29,8 @@ pub struct MessageBlocks {
 }
 
 impl BlockTable {
-    /// The table of a side before it takes a request. Its time is in proportion to the blocks. The
-    /// only error is want of memory.
+    /// Returns the table of a side that has taken no request. Takes time in proportion to the number of
+    /// blocks. Fails only if memory runs out.
     pub fn new(alloc: Global, script: &Script, side: Side) -> Result<BlockTable, AllocError>
         requires { length script.now.blocks < 2 ^ 32 }
         ensures { IfOk result (λ table. IsTableOf script.now.blocks side [] table) }
@@ -42,7 +45,7 @@ impl BlockTable {
         Ok(table)
     }
 
-    // One more block of the script.
+    // Adds the next block of the script.
     fn add(
         &mut self,
         alloc: Global,
@@ -67,7 +70,7 @@ impl BlockTable {
         Ok(())
     }
 
-    /// The main of the side, if it has one. It takes no memory.
+    /// Returns the main of the side, if it has one. Takes no memory.
     pub fn main(&self) -> Option<u32>
         ensures { (blocks : List ScriptBlock) (side : EndSide) (taken : List ℕ) → IsTableOf blocks side taken self.now
             → option_and_then (slice_get blocks) result ≡ slice_get (filter (serves side None) blocks) 0 }
@@ -75,24 +78,24 @@ impl BlockTable {
         self.main
     }
 
-    /// A request of the message of this number is taken: the block that serves it, if the message
-    /// has one. Its time does not grow with the script. It takes no memory.
+    /// Takes a request of the message with this number. Returns the block that serves it, if the
+    /// message has one. Takes a time that does not grow with the script, and no memory.
     pub fn take(&mut self, number: u32) -> Option<u32>
         ensures { (blocks : List ScriptBlock) (side : EndSide) (taken : List ℕ) → IsTableOf blocks side taken self.old
-            → IsTableOf blocks side (number ∷ taken) self.new × (option_and_then (slice_get blocks) result ≡ block_behind blocks side number taken) }
+            → IsTableOf blocks side (number ∷ taken) self.new × (option_and_then (slice_get blocks) result ≡ block_after blocks side number taken) }
     {
         take_block(number, &mut self.messages)
     }
 }
 
-// Whether a block is of a side.
+// Returns whether a block belongs to a side.
 fn is_of(block: &Block, side: Side) -> bool
-    ensures { result ≡ is_side block.now.side side }
+    ensures { result ≡ same_side block.now.side side }
 {
     block.side == side
 }
 
-// One more block for a message.
+// Adds a block for a message.
 fn list(
     alloc: Global,
     number: u32,
@@ -113,12 +116,13 @@ fn list(
     Ok(())
 }
 
-// The block that serves the next request of a message, and the one behind it serves the next.
+// Takes the block that serves the next request of a message. If another block follows, that one is
+// next.
 fn take_block(number: u32, messages: &mut IndexMap<u32, MessageBlocks>) -> Option<u32>
     ensures taken { result ≡ slice_get (listed_in messages.old number) (next_in messages.old number) }
     ensures listed { (n : ℕ) → listed_in messages.new n ≡ listed_in messages.old n }
     ensures next { (n : ℕ) → next_in messages.new n
-        ≡ (if nat_eq n number then next_behind (length (listed_in messages.old n)) (next_in messages.old n) else next_in messages.old n) }
+        ≡ (if nat_eq n number then next_after (length (listed_in messages.old n)) (next_in messages.old n) else next_in messages.old n) }
 {
     let message = messages.get_mut(&number)?;
     let block = message.blocks.get(message.next).copied()?;

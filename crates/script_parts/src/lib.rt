@@ -1,5 +1,5 @@
-//! What playing a script asks of it (docs/scripts.md): the block that serves each request, found
-//! without a walk over the blocks; and the values that its terms stand for.
+//! What is needed to play a script (docs/scripts.md): the block that serves each request, found without
+//! a walk over the blocks, and the values of its terms.
 #![tactic(auto)]
 
 mod blocks;

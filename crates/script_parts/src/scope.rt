@@ -1,3 +1,5 @@
+//! The values of terms in a handler.
+
 ghost use Rattle.std.specs.Prelude.{◌≡◌, ℕ, ℤ, List, Option, IfOk};
 ghost use Rattle.std.specs.Option.{option_map_or};
 ghost use Rattle.ipdl_base.specs.declared.value.Value.TheVariants as value;
@@ -6,40 +8,41 @@ ghost use Rattle.handler_script.specs.ValueOf.{given_at, id_in, id_of, no_id, va
 ghost use Rattle.script_parts.specs.Scopes.{context_of};
 
 use handler_script::{Term, Terms, Who};
-use ipdl_base::{Name, Value, Values};
+use ipdl_base::{Name, TOP_ID, Value, Values};
 use std::alloc::{AllocError, Global};
-
-const TOP: i32 = 2147483647;
 
 const NOBODY: i32 = -1;
 
-/// Looks up the actors that names hold.
+/// Looks up actors by name.
 pub trait ActorNames {
-    /// The id of the actor that each name holds.
+    /// The id of the actor with each name.
     ghost held: { Self → List ℕ → Option ℤ };
 
-    /// The id of the actor that a name holds, if it holds one.
+    /// Returns the id of the actor with this name, if there is one.
     fn actor(&self, name: &Name) -> Option<i32>
         ensures { result ≡ held self.now name.now };
 }
 
-/// What terms are seen with in a handler: the actor of the handled message, the actor that it built,
-/// by their ids, and its values.
+/// The context of terms in a handler: the id of the handled message's actor, the id of the actor that
+/// it built, and its values.
 #[derive(Clone, Copy)]
 pub struct TermScope<'a> {
+    /// The id of the handled message's actor.
     pub this: i32,
+    /// The id of the actor that the handled constructor built.
     pub made: i32,
+    /// The values of the handled message.
     pub given: &'a Values,
 }
 
 impl<'a> TermScope<'a> {
-    /// The id of the actor that is spoken of; -1, which never lives, where there is none. It takes
-    /// no memory.
+    /// Returns the id of the actor that `who` refers to, or -1, which never lives, if there is no such
+    /// actor. Takes no memory.
     pub fn id_of<N: ActorNames>(&self, names: &N, who: &Who) -> i32
         ensures { result ≡ id_of (context_of self.now (N.held names.now)) who.now }
     {
         match who {
-            Who::Top => TOP,
+            Who::Top => TOP_ID,
             Who::This => self.this,
             Who::Made => self.made,
             Who::Param(number) => given_actor(self.given, *number),
@@ -47,7 +50,7 @@ impl<'a> TermScope<'a> {
         }
     }
 
-    /// The value that a term stands for. The only error is want of memory.
+    /// Returns the value that a term represents. Fails only if memory runs out.
     #[cycle(evaluate)]
     pub fn value_of<N: ActorNames>(
         &self,
@@ -80,7 +83,7 @@ impl<'a> TermScope<'a> {
         }
     }
 
-    /// The values that terms stand for. The only error is want of memory.
+    /// Returns the values that terms represent. Fails only if memory runs out.
     #[cycle(evaluate)]
     pub fn values_of<N: ActorNames>(
         &self,
@@ -100,7 +103,7 @@ impl<'a> TermScope<'a> {
     }
 }
 
-// The value of the parameter of this number, from 1, if there is one.
+// Returns the value of the parameter with this number, counted from 1, if there is one.
 fn given_value<'a>(given: &'a Values, number: u32) -> Option<&'a Value>
     ensures { option_map_or (λ v. plain v.now) result (value.Actor no_id) ≡ given_at given.now number }
 {
@@ -116,7 +119,7 @@ fn given_value<'a>(given: &'a Values, number: u32) -> Option<&'a Value>
     }
 }
 
-// The id of the actor that it is, if it is one.
+// Returns the id of the actor in the parameter with this number, or -1 if it is not an actor.
 fn given_actor(given: &Values, number: u32) -> i32
     ensures { result ≡ id_in (given_at given.now number) }
 {
@@ -126,7 +129,8 @@ fn given_actor(given: &Values, number: u32) -> i32
     }
 }
 
-// A copy of it, or an actor that never lives.
+// Copies the value of the parameter with this number. If there is no such parameter, returns an actor
+// that never lives.
 fn copy_given(alloc: Global, given: &Values, number: u32) -> Result<Value, AllocError>
     ensures { IfOk result (λ v. plain v ≡ given_at given.now number) }
 {

@@ -1,4 +1,4 @@
--- The brackets of a statement are balanced: as many open as close.
+-- The brackets of a statement are balanced: the same number open and close.
 use Rattle.std.proofs.Common.{◌≡◌, ℕ, ◌+◌, ◌<◌, Bool, true, false, cond, List, [], ◌∷◌, Option, None, refl, sym, ap, ◌∙◌, arith}
 use Rattle.std.specs.Prelude.{count_by, codes}
 use Rattle.std.proofs.lemmas.List.Sums.{sum_by-cons}
@@ -16,7 +16,7 @@ use Rattle.script_reader.specs.declared.written.WrittenValue.{WrittenValue, Unio
 use Rattle.script_reader.specs.declared.written.WrittenValue.TheVariants as written
 use Rattle.script_reader.specs.declared.written.WrittenValues.{WrittenValues, First'}
 use Rattle.script_reader.specs.declared.written.WrittenValues.TheVariants as values
-use Rattle.script_reader.specs.Grammar.{name_of, name, who_of, who, atom_of, keyword_of, closing, value, listed, more, message, arguments, call, keyword_for, behind_keyword, statement}
+use Rattle.script_reader.specs.Grammar.{name_of, name, who_of, who, atom_of, keyword_of, closing, value, listed, more, message, arguments, call, keyword_for, following_keyword, statement}
 use Rattle.script_reader.specs.Heads.{is_opening, is_closing}
 use Rattle.script_reader.specs.Parts.{mark, single}
 
@@ -26,11 +26,11 @@ opens ts = count_by is_opening ts
 closes : List ScriptToken → ℕ
 closes ts = count_by is_closing ts
 
--- what stands from one point to another has as many marks that open as marks that close
+-- what is between two points has the same number of marks that open and of marks that close
 record Even (from to : List ScriptToken) : Type 0 where
   even : opens from + closes to ≡ opens to + closes from
 
--- it has one more that closes
+-- it has one more mark that closes
 record Closed (from to : List ScriptToken) : Type 0 where
   closed : opens from + closes to + 1 ≡ opens to + closes from
 
@@ -116,26 +116,26 @@ name_even n from to h = plain_single name_of (λ b. refl) n from to h
 who_even : (w : Who) (from to : List ScriptToken) → who w from to → Even from to
 who_even w from to h = plain_single who_of (λ b. refl) w from to h
 
-behind_even : (s : Statement) (from to : List ScriptToken) → behind_keyword s from to → Even from to
-behind_even (forms.Main s) from to h = plain_token (token.Word (codes "main")) from to h refl refl
-behind_even (forms.On s m) from to h = even_then from h.0 to (plain_token (token.Word (codes "on")) from h.0 h.1 refl refl) (message_even m h.0 to h.2)
-behind_even forms.End from to h = even_none from to h
-behind_even (forms.Send w c) from to h = even_then from h.0 to (who_even w from h.0 h.1) (call_even c h.0 to h.2)
-behind_even (forms.New n w c) from to h = even_then from h.0 to (name_even n from h.0 h.1) (even_then h.0 h.2.0 to (who_even w h.0 h.2.0 h.2.1) (call_even c h.2.0 to h.2.2))
-behind_even (forms.Let n w) from to h = even_then from h.0 to (name_even n from h.0 h.1) (who_even w h.0 to h.2)
-behind_even (forms.Resolve vs) from to h = arguments_even vs from to h
-behind_even forms.Reject from to h = even_none from to h
-behind_even (forms.Keep n) from to h = name_even n from to h
-behind_even (forms.ResolveKept n c) from to h = even_then from h.0 to (name_even n from h.0 h.1) (call_even c h.0 to h.2)
-behind_even (forms.RejectKept n m) from to h = even_then from h.0 to (name_even n from h.0 h.1) (message_even m h.0 to h.2)
-behind_even forms.Close from to h = even_none from to h
-behind_even forms.Die from to h = even_none from to h
-behind_even (forms.Return vs) from to h = arguments_even vs from to h
+after_even : (s : Statement) (from to : List ScriptToken) → following_keyword s from to → Even from to
+after_even (forms.Main s) from to h = plain_token (token.Word (codes "main")) from to h refl refl
+after_even (forms.On s m) from to h = even_then from h.0 to (plain_token (token.Word (codes "on")) from h.0 h.1 refl refl) (message_even m h.0 to h.2)
+after_even forms.End from to h = even_none from to h
+after_even (forms.Send w c) from to h = even_then from h.0 to (who_even w from h.0 h.1) (call_even c h.0 to h.2)
+after_even (forms.New n w c) from to h = even_then from h.0 to (name_even n from h.0 h.1) (even_then h.0 h.2.0 to (who_even w h.0 h.2.0 h.2.1) (call_even c h.2.0 to h.2.2))
+after_even (forms.Let n w) from to h = even_then from h.0 to (name_even n from h.0 h.1) (who_even w h.0 to h.2)
+after_even (forms.Resolve vs) from to h = arguments_even vs from to h
+after_even forms.Reject from to h = even_none from to h
+after_even (forms.Keep n) from to h = name_even n from to h
+after_even (forms.ResolveKept n c) from to h = even_then from h.0 to (name_even n from h.0 h.1) (call_even c h.0 to h.2)
+after_even (forms.RejectKept n m) from to h = even_then from h.0 to (name_even n from h.0 h.1) (message_even m h.0 to h.2)
+after_even forms.Close from to h = even_none from to h
+after_even forms.Die from to h = even_none from to h
+after_even (forms.Return vs) from to h = arguments_even vs from to h
 
--- a statement that has more marks that open than marks that close is none
+-- tokens with more marks that open than marks that close are not a statement
 pub unbalanced : (s : Statement) (tokens : List ScriptToken) → count_by is_closing tokens < count_by is_opening tokens → ¬ statement s tokens []
 unfolding opens closes
 unbalanced s tokens less h =
-    let e = even_then tokens h.0 [] (plain_single keyword_of (λ b. refl) (keyword_for s) tokens h.0 h.1) (behind_even s h.0 [] h.2) in
+    let e = even_then tokens h.0 [] (plain_single keyword_of (λ b. refl) (keyword_for s) tokens h.0 h.1) (after_even s h.0 [] h.2) in
     let p = e.even in
     omega (arith, p, less)

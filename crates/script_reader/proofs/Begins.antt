@@ -8,14 +8,14 @@ use Rattle.script_reader.specs.declared.token.TokenClass.{TokenClass}
 use Rattle.script_reader.specs.declared.token.TokenClass.TheVariants as class
 use Rattle.script_reader.specs.declared.token.ScriptToken.{ScriptToken}
 use Rattle.script_reader.specs.declared.token.ScriptToken.TheVariants as token
-use Rattle.script_reader.specs.Tokens.{is_blank, behind, hex_at, character_at, is_digit, is_mark, begins_bytes, class_of, IsNumber, IsTokenOf, IsToken}
+use Rattle.script_reader.specs.Tokens.{is_blank, following, hex_at, character_at, is_digit, is_mark, begins_bytes, class_of, IsNumber, IsTokenOf, IsToken}
 use Rattle.script_reader.proofs.Sequences.{one_in_quotes, quote_no_character, quote_no_digits}
 
 neither : (b : Bool) (x y z : TokenClass) → ¬ (x ≡ z) → ¬ (y ≡ z) → ¬ (cond b x y ≡ z)
 neither true x y z f g = f
 neither false x y z f g = g
 
--- what begins a word may stand in one
+-- what may begin a word may be in a word
 pub word_start : (b : ℕ) (to : List ℕ) → class_of (b ∷ to) ≡ class.Word → is_word_start b ≡ true
 word_start b to h = elim (cases_Bool (is_word_start b)) [
   | inl e ↦ e
@@ -54,7 +54,7 @@ one_of class.Bytes t u from to end x y =
 one_of class.Mark t u from to end x y = (x.0 ∙ sym y.0, x.1 ∙ sym y.1)
 one_of class.Other t u from to end x y = absurd x
 
--- one token stands at a place
+-- there is one token at a place
 pub one_token : (t u : ScriptToken) (from to end : List ℕ) → IsToken t from to → IsToken u from end → (t ≡ u) × (to ≡ end)
 one_token t u from to end x y = one_of (class_of from) t u from to end x y
 
@@ -64,9 +64,9 @@ all_pass (b ∷ bytes) h =
     let both = and_parts (is_blank b) (list_all is_blank bytes) h in
     rw both.0 (omega (arith, all_pass bytes both.1))
 
--- no token stands behind blanks alone
-pub blank_no_token : (line : List ℕ) (t : ScriptToken) (to : List ℕ) → list_all is_blank line ≡ true → ¬ IsToken t (behind is_blank line) to
+-- there is no token after blanks only
+pub blank_no_token : (line : List ℕ) (t : ScriptToken) (to : List ℕ) → list_all is_blank line ≡ true → ¬ IsToken t (following is_blank line) to
 blank_no_token line t to h is =
-    let none : behind is_blank line ≡ [] = ap (λ n. drop n line) (all_pass line h) ∙ drop-length line in
+    let none : following is_blank line ≡ [] = ap (λ n. drop n line) (all_pass line h) ∙ drop-length line in
     let P : List ℕ → Type 0 = λ l. IsToken t l to in
     subst P none is

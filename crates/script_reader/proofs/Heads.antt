@@ -17,7 +17,7 @@ use Rattle.script_reader.specs.declared.written.WrittenValue.TheVariants as writ
 use Rattle.script_reader.specs.Grammar.{atom_named, atom_of, closing, value}
 use Rattle.script_reader.specs.Heads.{begin_with, begin_of}
 
--- a word that is `some` is no value by itself
+-- the word `some` is not a value on its own
 atom_begin : (t : ScriptToken) (a : Atom) → atom_of t ≡ Some a → begin_with t ≡ begin.Atom
 atom_begin (token.Word w) a h = elim (cases_Bool (bytes_eq w (codes "some"))) [
   | inl e ↦ absurd (let P : List ℕ → Type 0 = λ l. atom_named l ≡ Some a in none-some a (subst P ((bytes_eq-Decides w (codes "some")).0 e) h))
@@ -34,7 +34,7 @@ begin_for (written.Array vs) = begin.Array
 begin_for (Union' index _ v) = begin.Union index
 begin_for (Held' _ v) = begin.Held
 
--- a value begins as its kind says
+-- a value begins as its form requires
 pub value_begin : (v : WrittenValue) (from to : List ScriptToken) → value v from to → begin_of from ≡ begin_for v
 value_begin (written.Atom a) from to h = ap begin_of h.1 ∙ atom_begin h.0 a h.2
 value_begin (written.Struct vs) from to h = ap begin_of h.1
@@ -42,7 +42,7 @@ value_begin (written.Array vs) from to h = ap begin_of h.1
 value_begin (Union' index _ v) from to h = ap begin_of h.1
 value_begin (Held' _ v) from to h = ap begin_of h.1
 
--- no value begins with a mark that closes or parts values
+-- no value begins with a mark that closes or separates values
 pub no_value : (b : ℕ) → begin_with (token.Mark b) ≡ begin.Atom → (v : WrittenValue) (rest to : List ScriptToken) → ¬ value v (token.Mark b ∷ rest) to
 no_value b plain (written.Atom a) rest to h =
     let e : token.Mark b ∷ rest ≡ h.0 ∷ to = h.1 in

@@ -1,4 +1,4 @@
--- Bytes that stand one behind another, each as a function finds it.
+-- Bytes that follow one after another, each as a function finds it.
 use Rattle.std.proofs.Common.{◌≡◌, ℕ, List, [], ◌∷◌, ◌++◌, Option, Some, None, unwrap_or, refl, sym, ap, subst, ◌∙◌}
 use Rattle.std.proofs.lemmas.Option.{none-some}
 use Rattle.script_reader.specs.Tokens.{hex_at, character_at, InSequence, InQuotes}
@@ -39,7 +39,7 @@ pub quote_no_digits : (to : List ℕ) → hex_at (34 ∷ to) ≡ None
 quote_no_digits [] = refl
 quote_no_digits (b ∷ to) = refl
 
--- where the bytes end without a quote there are none in quotes
+-- if the bytes end without a quote, there are no bytes in quotes
 pub none_in_quotes : (at : List ℕ → Option (ℕ × List ℕ)) (done from rest : List ℕ) → ((to : List ℕ) → at (34 ∷ to) ≡ None) → Reached at done from rest → at rest ≡ None → ((to : List ℕ) → ¬ (rest ≡ 34 ∷ to)) → (bytes to : List ℕ) → ¬ InQuotes at bytes from to
 none_in_quotes at done from rest quote r ends none bytes to s =
     none to ((one_sequence at done bytes from rest (34 ∷ to) r.found s ends (quote to)).1)

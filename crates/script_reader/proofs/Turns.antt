@@ -10,7 +10,7 @@ use Rattle.script_reader.specs.Lines.{Says, AreRead}
 pub end_of : {S A B : Type 0} {steps : S → Option A → S → Type 0} {v : A → B} {s : S} {all : List B} (xs : List A) (t : S) → Yields steps s xs t → (r : Option A) (u : S) → r ≡ None → steps t r u → YieldsList steps v s all → map v xs ≡ all
 end_of xs t y r u is step road = (YieldsList-end road xs t y r u is step).0
 
--- these lines say this
+-- the readings of these lines
 pub record HasRead (lines : List (List ℕ)) (readings : List LineReading) : Type 0 where
   pub each : AreRead lines readings
 

@@ -1,22 +1,22 @@
--- A line says at most one thing.
+-- A line has at most one reading.
 use Rattle.std.proofs.Common.{◌≡◌, ℕ, List, [], refl, ap, subst, arith}
 use denote.RawPtr.{null_ptr}
 use Rattle.script_reader.specs.declared.line.LineReading.TheVariants as line
 use Rattle.script_reader.specs.declared.statement.Statement.{Statement}
 use Rattle.script_reader.specs.declared.token.ScriptToken.{ScriptToken}
-use Rattle.script_reader.specs.Grammar.{keyword_of, keyword_for, behind_keyword, statement}
+use Rattle.script_reader.specs.Grammar.{keyword_of, keyword_for, following_keyword, statement}
 use Rattle.script_reader.specs.Laws.{OneReading}
 use Rattle.script_reader.specs.Lines.{IsStatement}
 use Rattle.script_reader.specs.Plain.{plain_statement}
-use Rattle.script_reader.proofs.StatementForms.{one_behind}
+use Rattle.script_reader.proofs.StatementForms.{one_after}
 use Rattle.script_reader.proofs.TokenLists.{one_tokens}
 use Rattle.script_reader.proofs.ValueForms.{one_single}
 
 one_statement : (s u : Statement) (from : List ScriptToken) → statement s from [] → statement u from [] → plain_statement s ≡ plain_statement u
 one_statement s u from h k =
     let e = one_single keyword_of (keyword_for s) (keyword_for u) from h.0 k.0 h.1 k.1 in
-    let P : List ScriptToken → Type 0 = λ l. behind_keyword s l [] in
-    one_behind s u k.0 e.0 (subst P e.1 h.2) k.2
+    let P : List ScriptToken → Type 0 = λ l. following_keyword s l [] in
+    one_after s u k.0 e.0 (subst P e.1 h.2) k.2
 
 one_line : (line : List ℕ) (s u : Statement) → IsStatement line s → IsStatement line u → plain_statement s ≡ plain_statement u
 one_line line s u x y = let P : List ScriptToken → Type 0 = λ l. statement s l [] in one_statement s u y.0 (subst P (one_tokens x.0 y.0 line x.1 y.1) x.2) y.2

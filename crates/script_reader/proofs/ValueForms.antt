@@ -1,4 +1,4 @@
--- There is one way to read values, and where there is none.
+-- Values can be read in at most one way, and the cases in which they cannot be read.
 use Rattle.std.proofs.Common.{◌≡◌, List, ◌∷◌, Option, Some, refl, sym, ap, ◌∙◌, subst}
 use Rattle.std.proofs.lemmas.Bool.{true≢false, eq-eqb}
 use Rattle.ipdl_base.specs.Plain.{one_box}

@@ -26,19 +26,19 @@ use Rattle.script_reader.specs.Parts.{Part, nothing, ◌⨾◌, mark, word, comp
 
 -- Names
 
--- the words that are no names
+-- the words that cannot be names
 abbrev pub no_names : List (List ℕ)
 no_names = codes "top" ∷ codes "this" ∷ codes "made" ∷ codes "null" ∷ codes "none" ∷ codes "some" ∷ codes "true" ∷ codes "false" ∷ []
 
--- whether a word is a name
+-- whether a word cannot be a name
 abbrev pub is_no_name : List ℕ → Bool
 is_no_name word = list_any (λ w. bytes_eq word w) no_names
 
--- the name that a word is
+-- the name that a word spells, if it may be a name
 abbrev pub named : List ℕ → Option (List ℕ)
 named word = if is_no_name word then None else Some word
 
--- the name that a token is
+-- the name that a token spells, if it is one
 abbrev pub name_of : ScriptToken → Option (List ℕ)
 name_of (token.Word word) = named word
 name_of _ = None
@@ -46,14 +46,14 @@ name_of _ = None
 abbrev pub name : List ℕ → Part
 name n = single name_of n
 
--- who a word stands for
+-- the actor that a word refers to, if it refers to one
 abbrev pub who_named : List ℕ → Option Who
 who_named word =
     if bytes_eq word (codes "top") then Some whos.Top else
     (if bytes_eq word (codes "this") then Some whos.This else
     (if bytes_eq word (codes "made") then Some whos.Made else option_map whos.Name (named word)))
 
--- who a token stands for
+-- the actor or parameter that a token refers to, if it refers to one
 abbrev pub who_of : ScriptToken → Option Who
 who_of (token.Word word) = who_named word
 who_of (token.Param n) = Some (whos.Param n)
@@ -68,7 +68,7 @@ message m = word m.protocol ⨾ mark 46 ⨾ word m.message
 
 -- Values
 
--- the value that a word is
+-- the value that a word spells, if it is one
 abbrev pub atom_named : List ℕ → Option Atom
 atom_named word =
     if bytes_eq word (codes "true") then Some (atom.Bool true) else
@@ -76,7 +76,7 @@ atom_named word =
     (if bytes_eq word (codes "none") then Some atom.Nothing else
     (if bytes_eq word (codes "null") then Some atom.Null else option_map atom.Who (who_named word))))
 
--- the value that a token is
+-- the value that a token spells, if it is one
 abbrev pub atom_of : ScriptToken → Option Atom
 atom_of (token.Word word) = atom_named word
 atom_of (token.Param n) = Some (atom.Who (whos.Param n))
@@ -118,7 +118,7 @@ call c = message c.message ⨾ arguments c.values
 
 -- Statements
 
--- the word that a statement begins with
+-- the keyword that a word is, if a statement may begin with it
 abbrev pub keyword_named : List ℕ → Option Keyword
 keyword_named word =
     if bytes_eq word (codes "parent") then Some (keyword.Side side.Parent) else
@@ -155,23 +155,23 @@ keyword_for forms.Close = keyword.Close
 keyword_for forms.Die = keyword.Die
 keyword_for (forms.Return vs) = keyword.Return
 
--- what stands behind the keyword of a statement
-abbrev pub behind_keyword : Statement → Part
-behind_keyword (forms.Main s) = word (codes "main")
-behind_keyword (forms.On s m) = word (codes "on") ⨾ message m
-behind_keyword forms.End = nothing
-behind_keyword (forms.Send w c) = who w ⨾ call c
-behind_keyword (forms.New n w c) = name n ⨾ who w ⨾ call c
-behind_keyword (forms.Let n w) = name n ⨾ who w
-behind_keyword (forms.Resolve vs) = arguments vs
-behind_keyword forms.Reject = nothing
-behind_keyword (forms.Keep n) = name n
-behind_keyword (forms.ResolveKept n c) = name n ⨾ call c
-behind_keyword (forms.RejectKept n m) = name n ⨾ message m
-behind_keyword forms.Close = nothing
-behind_keyword forms.Die = nothing
-behind_keyword (forms.Return vs) = arguments vs
+-- what follows the keyword of a statement
+abbrev pub following_keyword : Statement → Part
+following_keyword (forms.Main s) = word (codes "main")
+following_keyword (forms.On s m) = word (codes "on") ⨾ message m
+following_keyword forms.End = nothing
+following_keyword (forms.Send w c) = who w ⨾ call c
+following_keyword (forms.New n w c) = name n ⨾ who w ⨾ call c
+following_keyword (forms.Let n w) = name n ⨾ who w
+following_keyword (forms.Resolve vs) = arguments vs
+following_keyword forms.Reject = nothing
+following_keyword (forms.Keep n) = name n
+following_keyword (forms.ResolveKept n c) = name n ⨾ call c
+following_keyword (forms.RejectKept n m) = name n ⨾ message m
+following_keyword forms.Close = nothing
+following_keyword forms.Die = nothing
+following_keyword (forms.Return vs) = arguments vs
 
 -- a statement
 abbrev pub statement : Statement → Part
-statement s = single keyword_of (keyword_for s) ⨾ behind_keyword s
+statement s = single keyword_of (keyword_for s) ⨾ following_keyword s

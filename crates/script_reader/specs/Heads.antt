@@ -1,4 +1,4 @@
--- What a value is by its first token, which the reader tells it by.
+-- The form of a value by its first token, which is all that the reader looks at.
 use Rattle.std.specs.Prelude.{Bool, false, ◌==◌, ◌||◌, if◌then◌else◌, List, [], ◌∷◌, codes}
 use Rattle.std.specs.Str.{bytes_eq}
 use Rattle.script_reader.specs.declared.reader.ValueForm.{ValueForm}

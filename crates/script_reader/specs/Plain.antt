@@ -11,7 +11,7 @@ use Rattle.script_reader.specs.declared.written.WrittenValue.TheVariants as writ
 use Rattle.script_reader.specs.declared.written.WrittenValues.{WrittenValues, First'}
 use Rattle.script_reader.specs.declared.written.WrittenValues.TheVariants as values
 
--- a written value, and written values, with every box there
+-- a written value, and written values, with every box at one place
 abbrev mutual
   pub plain_written : WrittenValue → WrittenValue
   plain_written (written.Atom a) = written.Atom a
@@ -24,11 +24,11 @@ abbrev mutual
   plain_values values.Nothing = values.Nothing
   plain_values (First' _ v _ vs) = First' one_box (plain_written v) one_box (plain_values vs)
 
--- a message with its values so
+-- a message with its values in plain form
 abbrev pub plain_call : WrittenMessage → WrittenMessage
 plain_call c = record c { values = plain_values c.values }
 
--- a statement with its values so
+-- a statement with its values in plain form
 abbrev pub plain_statement : Statement → Statement
 plain_statement (forms.Send w c) = forms.Send w (plain_call c)
 plain_statement (forms.New n w c) = forms.New n w (plain_call c)
@@ -37,7 +37,7 @@ plain_statement (forms.ResolveKept n c) = forms.ResolveKept n (plain_call c)
 plain_statement (forms.Return vs) = forms.Return (plain_values vs)
 plain_statement s = s
 
--- what a line says, with the box of its statement there
+-- a reading, with its statement in plain form
 abbrev pub plain_reading : LineReading → LineReading
 plain_reading (line.Statement held) = line.Statement (record { ptr = null_ptr; alloc = record { memory = record { seal = tt } }; value = plain_statement held.value })
 plain_reading reading = reading

@@ -1,17 +1,17 @@
--- What a reader says of what it did not read.
+-- What it means that a reader read nothing.
 use Rattle.std.specs.Prelude.{◌≡◌, List, []}
 use Rattle.script_reader.specs.declared.parts.Keyword.{Keyword}
 use Rattle.script_reader.specs.declared.statement.Statement.{Statement}
 use Rattle.script_reader.specs.declared.stop.ReadFailure.{ReadFailure}
 use Rattle.script_reader.specs.declared.stop.ReadFailure.TheVariants.{NoReading, NoMemory}
 use Rattle.script_reader.specs.declared.token.ScriptToken.{ScriptToken}
-use Rattle.script_reader.specs.Grammar.{keyword_for, behind_keyword}
+use Rattle.script_reader.specs.Grammar.{keyword_for, following_keyword}
 
--- unless memory ran out, this holds
+-- unless memory ran out, this is true
 abbrev pub Refuses : Type 0 → ReadFailure → Type 0
 Refuses P NoReading = P
 Refuses P NoMemory = Unit {0}
 
--- a statement with this keyword stands behind it, to the end of the tokens
-abbrev pub IsBehind : Keyword → List ScriptToken → Statement → Type 0
-IsBehind k from s = (keyword_for s ≡ k) × behind_keyword s from []
+-- the tokens are the rest of a statement after this keyword, up to their end
+abbrev pub IsAfter : Keyword → List ScriptToken → Statement → Type 0
+IsAfter k from s = (keyword_for s ≡ k) × following_keyword s from []

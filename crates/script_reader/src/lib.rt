@@ -1,5 +1,5 @@
-//! The lines of a handler script: the tokens of a line, the statement that they are, and what each
-//! line of a text says (docs/scripts.md).
+//! The lines of a handler script: the tokens of a line, the statement that they spell, and the reading
+//! of each line of a text (docs/scripts.md).
 #![tactic(auto)]
 
 mod cursor;

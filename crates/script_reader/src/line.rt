@@ -1,3 +1,5 @@
+//! The lines of a script, and how each of them is read.
+
 ghost use Rattle.std.specs.Prelude.{◌≡◌, ◌↔◌, ◌≤◌, IsTrue, length, IfOk, IfErr};
 ghost use Rattle.script_reader.specs.declared.statement.Statement.{Statement as StatementType};
 ghost use Rattle.script_reader.specs.Lines.{first_mark, IsSilent, IsStatement, Says, IsReading};
@@ -11,32 +13,32 @@ use crate::tokens::tokens_of;
 use ipdl_base::Items;
 use std::alloc::{AllocError, Global};
 
-/// What a line of a script says.
+/// How a line of a script is read.
 #[derive(Drop)]
 pub enum LineReading {
-    /// Nothing: it is blank or a comment.
+    /// Nothing: the line is blank or a comment.
     Silent,
     Statement(Box<Statement>),
-    /// It is no statement.
+    /// The line is not a statement.
     NoStatement,
-    /// It has more bytes than a line may have.
+    /// The line has more than `MAX_LINE_LEN` bytes.
     TooLong,
 }
 
-/// What each line of a script says, in order.
+/// The readings of the lines of a script, in order.
 pub type LineReadings = Items<LineReading>;
 
-/// The most bytes of a line, without its line feed.
+/// The greatest number of bytes in a line, without its line feed.
 pub const MAX_LINE_LEN: usize = 16_384;
 
-/// The first byte of a line that is not blank.
+/// Returns the first byte of a line that is not blank.
 fn first_mark(line: &[u8]) -> Option<u8>
     ensures { result ≡ first_mark line.now }
 {
     line.iter().copied().find(|b| !is_blank(*b))
 }
 
-/// Whether a line says nothing.
+/// Returns whether a line is blank or a comment.
 fn is_silent(line: &[u8]) -> bool
     ensures { IsTrue result ↔ IsSilent line.now }
 {
@@ -46,7 +48,7 @@ fn is_silent(line: &[u8]) -> bool
     }
 }
 
-/// The statement that a line is.
+/// Reads the statement of a line.
 fn statement_of(alloc: Global, line: &[u8]) -> Result<Statement, ReadFailure>
     ensures read { IfOk result (IsStatement line.now) }
     ensures stops { IfErr result (Refuses ((s : StatementType) → ¬ IsStatement line.now s)) }
@@ -55,7 +57,7 @@ fn statement_of(alloc: Global, line: &[u8]) -> Result<Statement, ReadFailure>
     statement(alloc, tokens.as_slice())
 }
 
-/// What a line says.
+/// Reads a line.
 fn read_line(alloc: Global, line: &[u8]) -> Result<LineReading, AllocError>
     ensures { IfOk result (Says line.now) }
 {
@@ -72,8 +74,8 @@ fn read_line(alloc: Global, line: &[u8]) -> Result<LineReading, AllocError>
     }
 }
 
-/// What each line of a text says (docs/scripts.md). Takes time in proportion to the text. The only
-/// error is want of memory.
+/// Reads each line of a text (docs/scripts.md). Takes time in proportion to the text. Fails only if
+/// memory runs out.
 pub fn read_lines(alloc: Global, text: &[u8]) -> Result<LineReadings, AllocError>
     ensures { IfOk result (IsReading text.now) }
 {

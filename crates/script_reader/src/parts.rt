@@ -1,6 +1,8 @@
+//! Brackets and keywords.
+
 use ipdl_base::Side;
 
-/// The brackets that values can stand in.
+/// The brackets that may enclose values.
 #[derive(Clone, Copy)]
 pub enum Bracket {
     Round,
@@ -8,7 +10,7 @@ pub enum Bracket {
     Curly,
 }
 
-/// The words that a statement can begin with.
+/// The words that a statement may begin with.
 #[derive(Clone, Copy)]
 pub enum Keyword {
     /// `parent` or `child`.

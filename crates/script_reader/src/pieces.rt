@@ -1,40 +1,46 @@
+//! Classes of bytes, and bytes by their spelling in quotes.
+
 ghost use Rattle.std.specs.Prelude.{◌≡◌, ◌<◌, length, IfSome};
 ghost use Rattle.std.specs.Option.{option_map};
 ghost use Rattle.ipdl_base.specs.Words.{is_word_start, is_word_byte};
 ghost use Rattle.script_reader.specs.Tokens as tokens;
 
-/// Whether the byte is a space, a tab or a carriage return.
+/// Returns whether the byte is a space, a tab or a carriage return.
 pub fn is_blank(b: u8) -> bool
     ensures { result ≡ tokens.is_blank b }
 {
     b" \t\r".contains(&b)
 }
 
+/// Returns whether the byte is a mark.
 pub fn is_mark(b: u8) -> bool
     ensures { result ≡ tokens.is_mark b }
 {
     b"(){}[],.".contains(&b)
 }
 
+/// Returns whether the byte is a decimal digit.
 pub fn is_digit(b: u8) -> bool
     ensures { result ≡ tokens.is_digit b }
 {
     b.is_ascii_digit()
 }
 
+/// Returns whether a word may begin with the byte.
 pub fn is_word_start(b: u8) -> bool
     ensures { result ≡ is_word_start b }
 {
     b.is_ascii_alphabetic() || b == b'_'
 }
 
+/// Returns whether a word may contain the byte.
 pub fn is_word_byte(b: u8) -> bool
     ensures { result ≡ is_word_byte b }
 {
     is_word_start(b) || b.is_ascii_digit()
 }
 
-/// The value of a hexadecimal digit.
+/// Returns the value of a hexadecimal digit.
 fn hex_value(b: u8) -> Option<u8>
     ensures value { result ≡ tokens.hex_value b }
     ensures below { IfSome result (λ value. value < 16) }
@@ -47,7 +53,7 @@ fn hex_value(b: u8) -> Option<u8>
     }
 }
 
-/// The byte that two hexadecimal digits spell.
+/// Returns the byte that two hexadecimal digits spell.
 fn hex_byte(high: u8, low: u8) -> Option<u8>
     ensures { result ≡ tokens.hex_byte high low }
 {
@@ -56,7 +62,7 @@ fn hex_byte(high: u8, low: u8) -> Option<u8>
     Some(16 * high + low)
 }
 
-/// The byte that two hexadecimal digits at the front spell, and what stands behind them.
+/// Returns the byte that two hexadecimal digits at the start of a text spell, and the rest after them.
 pub fn hex_at(text: &[u8]) -> Option<(u8, &[u8])>
     ensures found { option_map (λ found. (found.0, found.1.now)) result ≡ tokens.hex_at text.now }
     ensures less { IfSome result (λ found. length found.1.now < length text.now) }
@@ -70,7 +76,7 @@ pub fn hex_at(text: &[u8]) -> Option<(u8, &[u8])>
     }
 }
 
-/// The byte that a letter behind a backslash stands for.
+/// Returns the byte that a letter after a backslash represents.
 fn escape(b: u8) -> Option<u8>
     ensures { result ≡ tokens.escape b }
 {
@@ -83,7 +89,7 @@ fn escape(b: u8) -> Option<u8>
     }
 }
 
-/// The byte that stands behind a backslash, and what stands behind its spelling.
+/// Returns the byte that is spelled after a backslash, and the rest after its spelling.
 fn escaped_at(text: &[u8]) -> Option<(u8, &[u8])>
     ensures found { option_map (λ found. (found.0, found.1.now)) result ≡ tokens.escaped_at text.now }
     ensures less { IfSome result (λ found. length found.1.now < length text.now) }
@@ -94,7 +100,7 @@ fn escaped_at(text: &[u8]) -> Option<(u8, &[u8])>
     }
 }
 
-/// The first byte of a text between quotes, and what stands behind its spelling.
+/// Returns the first byte of a text between quotes, and the rest after its spelling.
 pub fn character_at(text: &[u8]) -> Option<(u8, &[u8])>
     ensures found { option_map (λ found. (found.0, found.1.now)) result ≡ tokens.character_at text.now }
     ensures less { IfSome result (λ found. length found.1.now < length text.now) }

@@ -1,3 +1,5 @@
+//! Reads names, marks and single values from the tokens of a line.
+
 ghost use Rattle.std.specs.Prelude.{◌≡◌, ◌≢◌, ◌<◌, ◌≤◌, ℕ, List, [], ◌∷◌, drop, length, true, false, IfOk, IfErr, OnOk, IfSome, IfNone};
 ghost use Rattle.script_reader.specs.declared.parts.Keyword.{Keyword as KeywordType};
 ghost use Rattle.script_reader.specs.declared.token.ScriptToken.{ScriptToken as TokenType};
@@ -17,20 +19,20 @@ use ipdl_base::Name;
 use std::alloc::Global;
 use std::marker::Model;
 
-/// What a value is, by its first token.
+/// The form of a value, by its first token.
 #[derive(Clone, Copy)]
 pub enum ValueForm {
     Struct,
     Array,
-    /// A union, by the index of its component.
+    /// A union: the index of its component.
     Union(u32),
-    /// What a maybe or a `UniquePtr` holds.
+    /// The content of a maybe or a `UniquePtr`.
     Held,
-    /// One token.
+    /// A value of one token.
     Atom,
 }
 
-/// The tokens of a line that are left.
+/// The rest of the tokens of a line.
 #[derive(Drop)]
 pub struct LineTokens<'a> {
     rest: &'a [ScriptToken],
@@ -45,7 +47,7 @@ impl<'a> Model for LineTokens<'a> {
     ghost view = { λ r. r.rest.now };
 }
 
-/// What a value is that begins with the token.
+/// Returns the form of a value that begins with the token.
 fn begin_with(token: &ScriptToken) -> ValueForm
     ensures { result ≡ begin_with token.now }
 {
@@ -59,14 +61,14 @@ fn begin_with(token: &ScriptToken) -> ValueForm
 }
 
 impl<'a> LineTokens<'a> {
-    /// The tokens of a line.
+    /// Returns a reader of these tokens.
     pub fn new(tokens: &'a [ScriptToken]) -> LineTokens<'a>
         ensures { result ≡ tokens.now }
     {
         LineTokens { rest: tokens }
     }
 
-    /// Whether no token is left.
+    /// Returns whether no token is left.
     pub fn is_empty(&self) -> bool
         ensures yes { result ≡ true → self.now ≡ [] }
         ensures not { result ≡ false → self.now ≢ [] }
@@ -74,7 +76,7 @@ impl<'a> LineTokens<'a> {
         self.rest.is_empty()
     }
 
-    /// That no token is left.
+    /// Succeeds if no token is left.
     pub fn end(&self) -> Result<(), ReadFailure>
         ensures read { OnOk result (self.now ≡ []) }
         ensures stops { IfErr result (Refuses (self.now ≢ [])) }
@@ -86,7 +88,7 @@ impl<'a> LineTokens<'a> {
         }
     }
 
-    /// What a value is that begins here.
+    /// Returns the form of a value that begins here.
     pub fn begin(&self) -> ValueForm
         ensures { result ≡ begin_of self.now }
     {
@@ -96,7 +98,7 @@ impl<'a> LineTokens<'a> {
         }
     }
 
-    /// Passes the next token, if there is one.
+    /// Skips the next token, if there is one.
     pub fn pass(&mut self)
         ensures { self.new ≡ drop 1 self.old }
     {
@@ -105,7 +107,7 @@ impl<'a> LineTokens<'a> {
         }
     }
 
-    /// Takes the next token.
+    /// Reads the next token, if there is one.
     fn next(&mut self) -> Option<&'a ScriptToken>
         ensures some { IfSome result (λ token. self.old ≡ token.now ∷ self.new) }
         ensures none { IfNone result (self.old ≡ []) }
@@ -115,7 +117,7 @@ impl<'a> LineTokens<'a> {
         Some(first)
     }
 
-    /// Whether the next token is this mark.
+    /// Returns whether the next token is this mark.
     pub fn is_at(&self, b: u8) -> bool
         ensures yes { result ≡ true → mark b self.now (drop 1 self.now) }
         ensures not { result ≡ false → (to : List TokenType) → ¬ mark b self.now to }
@@ -126,7 +128,7 @@ impl<'a> LineTokens<'a> {
         }
     }
 
-    /// Passes the next token if it is this mark, and says whether it was.
+    /// Skips the next token if it is this mark. Returns whether it was.
     pub fn skips(&mut self, b: u8) -> bool
         ensures yes { result ≡ true → mark b self.old self.new }
         ensures not { result ≡ false → (to : List TokenType) → ¬ mark b self.old to }
@@ -139,7 +141,7 @@ impl<'a> LineTokens<'a> {
         is_at
     }
 
-    /// Takes this mark.
+    /// Reads this mark.
     pub fn mark(&mut self, b: u8) -> Result<(), ReadFailure>
         ensures read { OnOk result (mark b self.old self.new) }
         ensures stops { IfErr result (Refuses ((to : List TokenType) → ¬ mark b self.old to)) }
@@ -151,7 +153,7 @@ impl<'a> LineTokens<'a> {
         }
     }
 
-    /// Takes a word.
+    /// Reads a word.
     pub fn word(&mut self, alloc: Global) -> Result<Name, ReadFailure>
         ensures read { IfOk result (λ w. word w self.old self.new) }
         ensures stops { IfErr result (Refuses ((w : List ℕ) (to : List TokenType) → ¬ word w self.old to)) }
@@ -162,7 +164,7 @@ impl<'a> LineTokens<'a> {
         }
     }
 
-    /// Takes a keyword.
+    /// Reads a keyword.
     pub fn keyword(&mut self) -> Result<Keyword, ReadFailure>
         ensures read { IfOk result (λ k. single keyword_of k self.old self.new) }
         ensures stops { IfErr result (Refuses ((k : KeywordType) (to : List TokenType) → ¬ single keyword_of k self.old to)) }
@@ -176,7 +178,7 @@ impl<'a> LineTokens<'a> {
         }
     }
 
-    /// Takes a name.
+    /// Reads a name.
     pub fn name(&mut self, alloc: Global) -> Result<Name, ReadFailure>
         ensures read { IfOk result (λ n. name n self.old self.new) }
         ensures stops { IfErr result (Refuses ((n : List ℕ) (to : List TokenType) → ¬ name n self.old to)) }
@@ -190,7 +192,7 @@ impl<'a> LineTokens<'a> {
         }
     }
 
-    /// Takes one who is spoken of.
+    /// Reads a token that refers to an actor or a parameter.
     pub fn who(&mut self, alloc: Global) -> Result<Who, ReadFailure>
         ensures read { IfOk result (λ w. who w self.old self.new) }
         ensures stops { IfErr result (Refuses ((w : WhoType) (to : List TokenType) → ¬ who w self.old to)) }
@@ -204,7 +206,7 @@ impl<'a> LineTokens<'a> {
         }
     }
 
-    /// Takes a value of one token.
+    /// Reads a value of one token.
     pub fn atom(&mut self, alloc: Global) -> Result<Atom, ReadFailure>
         ensures read { IfOk result (λ a. single atom_of a self.old self.new) }
         ensures stops { IfErr result (Refuses ((a : AtomType) (to : List TokenType) → ¬ single atom_of a self.old to)) }

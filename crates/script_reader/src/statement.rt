@@ -1,9 +1,12 @@
+//! Statements.
+
 use crate::written::{Who, WrittenValues};
 use ipdl_base::{Name, Side};
 
-/// A message by the short name of its protocol and its own, as `P.M`.
+/// A message, by the short name of its protocol and its own name, as `P.M`.
 #[derive(Drop)]
 pub struct MessageName {
+    /// The short name of the protocol.
     pub protocol: Name,
     pub message: Name,
 }
@@ -12,13 +15,14 @@ pub struct MessageName {
 #[derive(Drop)]
 pub struct WrittenMessage {
     pub message: MessageName,
+    /// The values.
     pub values: WrittenValues,
 }
 
-/// What a line of a script says.
+/// The statement of a line of a script.
 #[derive(Drop)]
 pub enum Statement {
-    /// `SIDE main`: opens the block of what the side does by itself.
+    /// `SIDE main`: opens the block of what the side does on its own.
     Main(Side),
     /// `SIDE on P.M`: opens a block of what the side does when it handles the message.
     On(Side, MessageName),
@@ -32,7 +36,7 @@ pub enum Statement {
     Let(Name, Who),
     /// `resolve (VALUES)`: answers the handled message.
     Resolve(WrittenValues),
-    /// `reject`: answers that the handled message is rejected.
+    /// `reject`: rejects the handled message.
     Reject,
     /// `keep NAME`: keeps the resolver of the handled message under a name.
     Keep(Name),
@@ -42,7 +46,7 @@ pub enum Statement {
     RejectKept(Name, MessageName),
     /// `close`: closes the end.
     Close,
-    /// `die`: ends the end.
+    /// `die`: kills the end.
     Die,
     /// `return (VALUES)`: gives the values of a sync message.
     Return(WrittenValues),

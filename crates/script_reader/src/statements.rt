@@ -1,3 +1,5 @@
+//! Reads a statement from the tokens of a line.
+
 ghost use Rattle.std.specs.Prelude.{◌≡◌, ◌≢◌, ◌↔◌, ◌<◌, IsTrue, count_by, true, false, [], IfOk, IfErr, List};
 ghost use Rattle.script_reader.specs.declared.parts.Keyword.TheVariants as keywords;
 ghost use Rattle.script_reader.specs.declared.statement.WrittenMessage.{WrittenMessage as CallType};
@@ -7,7 +9,7 @@ ghost use Rattle.script_reader.specs.declared.token.ScriptToken.{ScriptToken as 
 ghost use Rattle.script_reader.specs.declared.written.WrittenValues.{WrittenValues as ValuesType};
 ghost use Rattle.script_reader.specs.Grammar as grammar;
 ghost use Rattle.script_reader.specs.Heads as heads;
-ghost use Rattle.script_reader.specs.Reading.{Refuses, IsBehind};
+ghost use Rattle.script_reader.specs.Reading.{Refuses, IsAfter};
 
 use crate::parts::{Bracket, Keyword};
 use crate::reader::LineTokens;
@@ -19,7 +21,7 @@ use crate::written::WrittenValues;
 use ipdl_base::Side;
 use std::alloc::Global;
 
-/// Takes a message, as `P.M`.
+/// Reads a message, as `P.M`.
 fn message(alloc: Global, reader: &mut LineTokens) -> Result<MessageName, ReadFailure>
     ensures read { IfOk result (λ m. grammar.message m reader.old reader.new) }
     ensures stops { IfErr result (Refuses ((m : MessageNameType) (to : List TokenType) → ¬ grammar.message m reader.old to)) }
@@ -30,7 +32,7 @@ fn message(alloc: Global, reader: &mut LineTokens) -> Result<MessageName, ReadFa
     Ok(MessageName { protocol, message })
 }
 
-/// Takes values in round brackets.
+/// Reads values in round brackets.
 fn arguments(alloc: Global, reader: &mut LineTokens) -> Result<WrittenValues, ReadFailure>
     ensures read { IfOk result (λ vs. grammar.arguments vs reader.old reader.new) }
     ensures stops { IfErr result (Refuses ((vs : ValuesType) (to : List TokenType) → ¬ grammar.arguments vs reader.old to)) }
@@ -39,7 +41,7 @@ fn arguments(alloc: Global, reader: &mut LineTokens) -> Result<WrittenValues, Re
     listed(alloc, reader, Bracket::Round)
 }
 
-/// Takes a message with values.
+/// Reads a message with values.
 fn call(alloc: Global, reader: &mut LineTokens) -> Result<WrittenMessage, ReadFailure>
     ensures read { IfOk result (λ c. grammar.call c reader.old reader.new) }
     ensures stops { IfErr result (Refuses ((c : CallType) (to : List TokenType) → ¬ grammar.call c reader.old to)) }
@@ -49,7 +51,7 @@ fn call(alloc: Global, reader: &mut LineTokens) -> Result<WrittenMessage, ReadFa
     Ok(WrittenMessage { message, values })
 }
 
-/// Whether a word is this one.
+/// Returns whether two words are equal.
 fn is(word: &[u8], other: &[u8]) -> bool
     ensures yes { result ≡ true → word.now ≡ other.now }
     ensures not { result ≡ false → word.now ≢ other.now }
@@ -57,10 +59,10 @@ fn is(word: &[u8], other: &[u8]) -> bool
     word == other
 }
 
-/// The statement of a side, behind its word.
+/// Reads the rest of a statement after the word of its side.
 fn opening(alloc: Global, reader: &mut LineTokens, side: Side) -> Result<Statement, ReadFailure>
-    ensures read { IfOk result (IsBehind (keywords.Side side) reader.old) }
-    ensures stops { IfErr result (Refuses ((s : StatementType) → ¬ IsBehind (keywords.Side side) reader.old s)) }
+    ensures read { IfOk result (IsAfter (keywords.Side side) reader.old) }
+    ensures stops { IfErr result (Refuses ((s : StatementType) → ¬ IsAfter (keywords.Side side) reader.old s)) }
 {
     let word = reader.word(alloc)?;
     if is(word.as_slice(), b"main") {
@@ -75,10 +77,10 @@ fn opening(alloc: Global, reader: &mut LineTokens, side: Side) -> Result<Stateme
     }
 }
 
-/// The statement behind `send`.
+/// Reads the rest of a statement after `send`.
 fn sending(alloc: Global, reader: &mut LineTokens) -> Result<Statement, ReadFailure>
-    ensures read { IfOk result (IsBehind keywords.Send reader.old) }
-    ensures stops { IfErr result (Refuses ((s : StatementType) → ¬ IsBehind keywords.Send reader.old s)) }
+    ensures read { IfOk result (IsAfter keywords.Send reader.old) }
+    ensures stops { IfErr result (Refuses ((s : StatementType) → ¬ IsAfter keywords.Send reader.old s)) }
 {
     let who = reader.who(alloc)?;
     let call = call(alloc, reader)?;
@@ -86,10 +88,10 @@ fn sending(alloc: Global, reader: &mut LineTokens) -> Result<Statement, ReadFail
     Ok(Statement::Send(who, call))
 }
 
-/// The statement behind `new`.
+/// Reads the rest of a statement after `new`.
 fn making(alloc: Global, reader: &mut LineTokens) -> Result<Statement, ReadFailure>
-    ensures read { IfOk result (IsBehind keywords.New reader.old) }
-    ensures stops { IfErr result (Refuses ((s : StatementType) → ¬ IsBehind keywords.New reader.old s)) }
+    ensures read { IfOk result (IsAfter keywords.New reader.old) }
+    ensures stops { IfErr result (Refuses ((s : StatementType) → ¬ IsAfter keywords.New reader.old s)) }
 {
     let name = reader.name(alloc)?;
     let who = reader.who(alloc)?;
@@ -98,10 +100,10 @@ fn making(alloc: Global, reader: &mut LineTokens) -> Result<Statement, ReadFailu
     Ok(Statement::New(name, who, call))
 }
 
-/// The statement behind `let`.
+/// Reads the rest of a statement after `let`.
 fn naming(alloc: Global, reader: &mut LineTokens) -> Result<Statement, ReadFailure>
-    ensures read { IfOk result (IsBehind keywords.Let reader.old) }
-    ensures stops { IfErr result (Refuses ((s : StatementType) → ¬ IsBehind keywords.Let reader.old s)) }
+    ensures read { IfOk result (IsAfter keywords.Let reader.old) }
+    ensures stops { IfErr result (Refuses ((s : StatementType) → ¬ IsAfter keywords.Let reader.old s)) }
 {
     let name = reader.name(alloc)?;
     let who = reader.who(alloc)?;
@@ -109,10 +111,10 @@ fn naming(alloc: Global, reader: &mut LineTokens) -> Result<Statement, ReadFailu
     Ok(Statement::Let(name, who))
 }
 
-/// The statement behind `resolve`.
+/// Reads the rest of a statement after `resolve`.
 fn resolving(alloc: Global, reader: &mut LineTokens) -> Result<Statement, ReadFailure>
-    ensures read { IfOk result (IsBehind keywords.Resolve reader.old) }
-    ensures stops { IfErr result (Refuses ((s : StatementType) → ¬ IsBehind keywords.Resolve reader.old s)) }
+    ensures read { IfOk result (IsAfter keywords.Resolve reader.old) }
+    ensures stops { IfErr result (Refuses ((s : StatementType) → ¬ IsAfter keywords.Resolve reader.old s)) }
 {
     if reader.is_at(b'(') {
         let values = arguments(alloc, reader)?;
@@ -125,10 +127,10 @@ fn resolving(alloc: Global, reader: &mut LineTokens) -> Result<Statement, ReadFa
     Ok(Statement::ResolveKept(name, call))
 }
 
-/// The statement behind `reject`.
+/// Reads the rest of a statement after `reject`.
 fn rejecting(alloc: Global, reader: &mut LineTokens) -> Result<Statement, ReadFailure>
-    ensures read { IfOk result (IsBehind keywords.Reject reader.old) }
-    ensures stops { IfErr result (Refuses ((s : StatementType) → ¬ IsBehind keywords.Reject reader.old s)) }
+    ensures read { IfOk result (IsAfter keywords.Reject reader.old) }
+    ensures stops { IfErr result (Refuses ((s : StatementType) → ¬ IsAfter keywords.Reject reader.old s)) }
 {
     if reader.is_empty() {
         return Ok(Statement::Reject);
@@ -139,61 +141,61 @@ fn rejecting(alloc: Global, reader: &mut LineTokens) -> Result<Statement, ReadFa
     Ok(Statement::RejectKept(name, message))
 }
 
-/// The statement behind `keep`.
+/// Reads the rest of a statement after `keep`.
 fn keeping(alloc: Global, reader: &mut LineTokens) -> Result<Statement, ReadFailure>
-    ensures read { IfOk result (IsBehind keywords.Keep reader.old) }
-    ensures stops { IfErr result (Refuses ((s : StatementType) → ¬ IsBehind keywords.Keep reader.old s)) }
+    ensures read { IfOk result (IsAfter keywords.Keep reader.old) }
+    ensures stops { IfErr result (Refuses ((s : StatementType) → ¬ IsAfter keywords.Keep reader.old s)) }
 {
     let name = reader.name(alloc)?;
     reader.end()?;
     Ok(Statement::Keep(name))
 }
 
-/// The statement behind `return`.
+/// Reads the rest of a statement after `return`.
 fn returning(alloc: Global, reader: &mut LineTokens) -> Result<Statement, ReadFailure>
-    ensures read { IfOk result (IsBehind keywords.Return reader.old) }
-    ensures stops { IfErr result (Refuses ((s : StatementType) → ¬ IsBehind keywords.Return reader.old s)) }
+    ensures read { IfOk result (IsAfter keywords.Return reader.old) }
+    ensures stops { IfErr result (Refuses ((s : StatementType) → ¬ IsAfter keywords.Return reader.old s)) }
 {
     let values = arguments(alloc, reader)?;
     reader.end()?;
     Ok(Statement::Return(values))
 }
 
-/// The statement of one word.
+/// Returns the statement `end`, if no token is left.
 fn ending(reader: &LineTokens) -> Result<Statement, ReadFailure>
-    ensures read { IfOk result (IsBehind keywords.End reader.now) }
-    ensures stops { IfErr result (Refuses ((s : StatementType) → ¬ IsBehind keywords.End reader.now s)) }
+    ensures read { IfOk result (IsAfter keywords.End reader.now) }
+    ensures stops { IfErr result (Refuses ((s : StatementType) → ¬ IsAfter keywords.End reader.now s)) }
 {
     reader.end()?;
     Ok(Statement::End)
 }
 
-/// The statement of one word.
+/// Returns the statement `close`, if no token is left.
 fn closing(reader: &LineTokens) -> Result<Statement, ReadFailure>
-    ensures read { IfOk result (IsBehind keywords.Close reader.now) }
-    ensures stops { IfErr result (Refuses ((s : StatementType) → ¬ IsBehind keywords.Close reader.now s)) }
+    ensures read { IfOk result (IsAfter keywords.Close reader.now) }
+    ensures stops { IfErr result (Refuses ((s : StatementType) → ¬ IsAfter keywords.Close reader.now s)) }
 {
     reader.end()?;
     Ok(Statement::Close)
 }
 
-/// The statement of one word.
+/// Returns the statement `die`, if no token is left.
 fn dying(reader: &LineTokens) -> Result<Statement, ReadFailure>
-    ensures read { IfOk result (IsBehind keywords.Die reader.now) }
-    ensures stops { IfErr result (Refuses ((s : StatementType) → ¬ IsBehind keywords.Die reader.now s)) }
+    ensures read { IfOk result (IsAfter keywords.Die reader.now) }
+    ensures stops { IfErr result (Refuses ((s : StatementType) → ¬ IsAfter keywords.Die reader.now s)) }
 {
     reader.end()?;
     Ok(Statement::Die)
 }
 
-/// The statement behind a keyword.
-fn behind(
+/// Reads the rest of a statement after its keyword.
+fn following(
     alloc: Global,
     reader: &mut LineTokens,
     keyword: Keyword,
 ) -> Result<Statement, ReadFailure>
-    ensures read { IfOk result (IsBehind keyword reader.old) }
-    ensures stops { IfErr result (Refuses ((s : StatementType) → ¬ IsBehind keyword reader.old s)) }
+    ensures read { IfOk result (IsAfter keyword reader.old) }
+    ensures stops { IfErr result (Refuses ((s : StatementType) → ¬ IsAfter keyword reader.old s)) }
 {
     match keyword {
         Keyword::Side(side) => opening(alloc, reader, side),
@@ -210,7 +212,7 @@ fn behind(
     }
 }
 
-/// Whether a token opens values.
+/// Returns whether a token opens values.
 fn is_opening(token: &ScriptToken) -> bool
     ensures { result ≡ heads.is_opening token.now }
 {
@@ -220,7 +222,7 @@ fn is_opening(token: &ScriptToken) -> bool
     }
 }
 
-/// Whether a token closes values.
+/// Returns whether a token closes values.
 fn is_closing(token: &ScriptToken) -> bool
     ensures { result ≡ heads.is_closing token.now }
 {
@@ -230,29 +232,29 @@ fn is_closing(token: &ScriptToken) -> bool
     }
 }
 
-/// How many tokens open values.
+/// Returns how many tokens open values.
 fn opening_count(tokens: &[ScriptToken]) -> usize
     ensures { result ≡ count_by heads.is_opening tokens.now }
 {
     tokens.iter().filter(|t| is_opening(t)).count()
 }
 
-/// How many tokens close values.
+/// Returns how many tokens close values.
 fn closing_count(tokens: &[ScriptToken]) -> usize
     ensures { result ≡ count_by heads.is_closing tokens.now }
 {
     tokens.iter().filter(|t| is_closing(t)).count()
 }
 
-/// Whether fewer marks close than open, so that the tokens are no statement. Without this test a
-/// line of marks that only open would need room on the stack for each.
+/// Returns whether fewer tokens close values than open them. Such tokens are not a statement. Without
+/// this test, a line of marks that only open would need room on the stack for each of them.
 fn is_unclosed(tokens: &[ScriptToken]) -> bool
     ensures { IsTrue result ↔ (count_by heads.is_closing tokens.now < count_by heads.is_opening tokens.now) }
 {
     closing_count(tokens) < opening_count(tokens)
 }
 
-/// The statement that tokens are.
+/// Reads the statement that these tokens spell.
 pub fn statement(alloc: Global, tokens: &[ScriptToken]) -> Result<Statement, ReadFailure>
     ensures read { IfOk result (λ s. grammar.statement s tokens.now []) }
     ensures stops { IfErr result (Refuses ((s : StatementType) → ¬ grammar.statement s tokens.now [])) }
@@ -262,5 +264,5 @@ pub fn statement(alloc: Global, tokens: &[ScriptToken]) -> Result<Statement, Rea
     }
     let mut reader = LineTokens::new(tokens);
     let keyword = reader.keyword()?;
-    behind(alloc, &mut reader, keyword)
+    following(alloc, &mut reader, keyword)
 }

@@ -1,3 +1,5 @@
+//! Why nothing was read.
+
 ghost use Rattle.std.specs.Prelude.{◌≡◌};
 ghost use Rattle.script_reader.specs.declared.stop.ReadFailure.TheVariants.{NoMemory};
 
@@ -6,7 +8,7 @@ use std::alloc::{AllocError, AllocFailed};
 /// Why nothing was read.
 #[derive(Clone, Copy)]
 pub enum ReadFailure {
-    /// There is no reading.
+    /// Nothing can be read here.
     NoReading,
     NoMemory,
 }

@@ -1,3 +1,5 @@
+//! Tokens, and their classes.
+
 use ipdl_base::Name;
 
 /// A token of a line of a script.
@@ -8,7 +10,7 @@ pub enum ScriptToken {
     Param(u32),
     /// `@n`, the index of a component.
     Index(u32),
-    /// A whole number, perhaps with `-`.
+    /// A whole number, negative if written with `-`.
     Number(i128),
     /// A text in quotes, without its escapes.
     Text(Name),
@@ -17,7 +19,7 @@ pub enum ScriptToken {
     Mark(u8),
 }
 
-/// What a token is, by its first bytes.
+/// The class of a token, by its first bytes.
 #[derive(Clone, Copy)]
 pub enum TokenClass {
     Word,
@@ -29,6 +31,6 @@ pub enum TokenClass {
     Text,
     Bytes,
     Mark,
-    /// No token begins so.
+    /// No token begins like this.
     Other,
 }

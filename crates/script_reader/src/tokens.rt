@@ -1,3 +1,5 @@
+//! Splits a line into tokens.
+
 ghost use Rattle.std.specs.Prelude.{◌≡◌, ◌↔◌, ◌<◌, ◌≤◌, IsTrue, OnOk, ℕ, pos, ◌-ℤ◌, List, drop, length, IfOk, IfErr};
 ghost use Rattle.std.specs.Str.{IsUtf8};
 ghost use Rattle.script_reader.specs.Reading.{Refuses};
@@ -15,10 +17,10 @@ use std::alloc::{AllocError, Global};
 /// The greatest number of a parameter, and the greatest index of a component.
 const MAX_COUNT: u128 = 0xffff_ffff;
 
-/// The size of a number from which on it is in no type.
+/// The size from which a number is outside every type.
 const BEYOND: u128 = 0x1_0000_0000_0000_0000;
 
-/// What a token is that begins with these bytes.
+/// Returns the class of a token that begins with these bytes.
 fn class_of(bytes: &[u8]) -> TokenClass
     ensures { result ≡ tokens.class_of bytes.now }
 {
@@ -48,14 +50,14 @@ fn class_of(bytes: &[u8]) -> TokenClass
     }
 }
 
-/// A name of these bytes.
+/// Returns a name with these bytes.
 fn name(alloc: Global, bytes: &[u8]) -> Result<Name, AllocError>
     ensures { IfOk result (λ name. name ≡ bytes.now) }
 {
     Name::from_slice(alloc, bytes)
 }
 
-/// Takes the number of a parameter or a component, behind its first byte.
+/// Reads the number of a parameter or component, after its first byte.
 fn count(cursor: &mut Cursor) -> Result<u32, ReadFailure>
     requires { 0 < length cursor.old }
     ensures read { IfOk result (λ n. IsNumber max_count n (drop 1 cursor.old) cursor.new) }
@@ -66,7 +68,7 @@ fn count(cursor: &mut Cursor) -> Result<u32, ReadFailure>
     Ok(cursor.number(MAX_COUNT)? as u32)
 }
 
-/// Takes a number.
+/// Reads a number.
 fn number(cursor: &mut Cursor) -> Result<i128, ReadFailure>
     ensures read { IfOk result (λ z. (n : ℕ) × (z ≡ pos n) × IsNumber beyond n cursor.old cursor.new) }
     ensures stops { IfErr result (Refuses ((n : ℕ) (to : List ℕ) → ¬ IsNumber beyond n cursor.old to)) }
@@ -75,7 +77,7 @@ fn number(cursor: &mut Cursor) -> Result<i128, ReadFailure>
     Ok(cursor.number(BEYOND)? as i128)
 }
 
-/// Takes a number behind its `-`.
+/// Reads a number, after its `-`.
 fn negative(cursor: &mut Cursor) -> Result<i128, ReadFailure>
     requires { 0 < length cursor.old }
     ensures read { IfOk result (λ z. (n : ℕ) × (z ≡ pos 0 -ℤ pos n) × IsNumber beyond n (drop 1 cursor.old) cursor.new) }
@@ -86,14 +88,14 @@ fn negative(cursor: &mut Cursor) -> Result<i128, ReadFailure>
     Ok(-number(cursor)?)
 }
 
-/// Whether the bytes are UTF-8.
+/// Returns whether the bytes are UTF-8.
 fn is_utf8(bytes: &[u8]) -> bool
     ensures { IsTrue result ↔ IsUtf8 bytes.now }
 {
     std::str::from_utf8(bytes).is_ok()
 }
 
-/// Takes a text behind its first quote.
+/// Reads a text, after its first quote.
 fn text(alloc: Global, cursor: &mut Cursor) -> Result<Name, ReadFailure>
     requires { 0 < length cursor.old }
     ensures read { IfOk result (λ text. IsUtf8 text × InQuotes character_at text (drop 1 cursor.old) cursor.new) }
@@ -109,7 +111,7 @@ fn text(alloc: Global, cursor: &mut Cursor) -> Result<Name, ReadFailure>
     }
 }
 
-/// Takes a token of a class.
+/// Reads a token of a class.
 fn token_of(
     alloc: Global,
     cursor: &mut Cursor,
@@ -140,7 +142,7 @@ fn token_of(
     }
 }
 
-/// Takes a token.
+/// Reads a token.
 fn token(alloc: Global, cursor: &mut Cursor) -> Result<ScriptToken, ReadFailure>
     ensures read { IfOk result (λ t. IsToken t cursor.old cursor.new) }
     ensures stops { IfErr result (Refuses ((t : ScriptToken) (to : List ℕ) → ¬ IsToken t cursor.old to)) }
@@ -150,7 +152,7 @@ fn token(alloc: Global, cursor: &mut Cursor) -> Result<ScriptToken, ReadFailure>
     token_of(alloc, cursor, class)
 }
 
-/// The tokens of a line.
+/// Splits a line into tokens.
 pub fn tokens_of(alloc: Global, line: &[u8]) -> Result<Vec<ScriptToken>, ReadFailure>
     ensures read { IfOk result (λ tokens. AreTokens tokens.items line.now) }
     ensures stops { IfErr result (Refuses ((tokens : List ScriptToken) → ¬ AreTokens tokens line.now)) }

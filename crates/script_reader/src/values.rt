@@ -1,3 +1,5 @@
+//! Reads values and lists of values.
+
 ghost use Rattle.std.specs.Prelude.{◌≡◌, ◌<◌, length, List, IfOk, IfErr, OnOk};
 ghost use Rattle.script_reader.specs.declared.token.ScriptToken.{ScriptToken as TokenType};
 ghost use Rattle.script_reader.specs.declared.written.Atom.{Atom as AtomType};
@@ -14,7 +16,7 @@ use crate::stop::ReadFailure;
 use crate::written::{WrittenValue, WrittenValues};
 use std::alloc::Global;
 
-/// The mark that closes values.
+/// Returns the mark that closes values.
 fn closing(bracket: Bracket) -> u8
     ensures { result ≡ grammar.closing bracket }
 {
@@ -25,8 +27,8 @@ fn closing(bracket: Bracket) -> u8
     }
 }
 
-/// A box of a value. It is no part of the functions that call themselves, so that these need
-/// little room on the stack.
+/// Puts a value in a box. Kept out of the recursive functions, so that these need little room on the
+/// stack.
 #[inline(never)]
 fn boxed(alloc: Global, value: WrittenValue) -> Result<Box<WrittenValue>, ReadFailure>
     ensures ok { IfOk result (λ b. b.value ≡ value) }
@@ -35,7 +37,8 @@ fn boxed(alloc: Global, value: WrittenValue) -> Result<Box<WrittenValue>, ReadFa
     Ok(Box::new(alloc, value)?)
 }
 
-/// Takes a value of one token, apart from the functions that call themselves.
+/// Reads a value of one token. Kept out of the recursive functions, so that these need little room on
+/// the stack.
 #[inline(never)]
 fn atom(alloc: Global, reader: &mut LineTokens) -> Result<Box<WrittenValue>, ReadFailure>
     ensures read { IfOk result (λ v. grammar.value v.value reader.old reader.new) }
@@ -46,7 +49,7 @@ fn atom(alloc: Global, reader: &mut LineTokens) -> Result<Box<WrittenValue>, Rea
     boxed(alloc, WrittenValue::Atom(atom))
 }
 
-/// Takes a value.
+/// Reads a value.
 #[cycle(values)]
 fn value(alloc: Global, reader: &mut LineTokens) -> Result<Box<WrittenValue>, ReadFailure>
     ensures read { IfOk result (λ v. grammar.value v.value reader.old reader.new) }
@@ -78,7 +81,7 @@ fn value(alloc: Global, reader: &mut LineTokens) -> Result<Box<WrittenValue>, Re
     }
 }
 
-/// Takes values, and the mark that closes them.
+/// Reads values, and the mark that closes them.
 #[cycle(values)]
 pub fn listed(
     alloc: Global,
@@ -97,7 +100,7 @@ pub fn listed(
     Ok(WrittenValues::First(first, Box::new(alloc, rest)?))
 }
 
-/// Takes the values behind the first one, and the mark that closes them.
+/// Reads the values after the first one, and the mark that closes them.
 #[cycle(values)]
 fn more(
     alloc: Global,

@@ -1,3 +1,5 @@
+//! What words and tokens mean: names, actors, values and keywords.
+
 ghost use Rattle.std.specs.Prelude.{◌≡◌, ◌↔◌, ◌⊎◌, IsTrue, IfOk};
 ghost use Rattle.script_reader.specs.Grammar as grammar;
 
@@ -7,7 +9,7 @@ use crate::written::{Atom, Who};
 use ipdl_base::{Name, Side};
 use std::alloc::{AllocError, Global};
 
-/// Whether a word is no name.
+/// Returns whether a word is reserved, so that it cannot be a name.
 fn is_no_name(word: &[u8]) -> bool
     ensures { result ≡ grammar.is_no_name word.now }
 {
@@ -21,7 +23,7 @@ fn is_no_name(word: &[u8]) -> bool
         || word == b"false".as_slice()
 }
 
-/// The name that a word is.
+/// Returns the name that a word spells, if it may be a name.
 fn named(alloc: Global, word: &Name) -> Result<Option<Name>, AllocError>
     ensures { IfOk result (λ found. found ≡ grammar.named word.now) }
 {
@@ -32,7 +34,7 @@ fn named(alloc: Global, word: &Name) -> Result<Option<Name>, AllocError>
     }
 }
 
-/// The name that a token is.
+/// Returns the name that a token spells, if it is one.
 pub fn name_of(alloc: Global, token: &ScriptToken) -> Result<Option<Name>, AllocError>
     ensures { IfOk result (λ found. found ≡ grammar.name_of token.now) }
 {
@@ -42,7 +44,7 @@ pub fn name_of(alloc: Global, token: &ScriptToken) -> Result<Option<Name>, Alloc
     }
 }
 
-/// Who a word stands for.
+/// Returns the actor that a word refers to, if it refers to one.
 fn who_named(alloc: Global, word: &Name) -> Result<Option<Who>, AllocError>
     ensures { IfOk result (λ found. found ≡ grammar.who_named word.now) }
 {
@@ -62,7 +64,7 @@ fn who_named(alloc: Global, word: &Name) -> Result<Option<Who>, AllocError>
     }
 }
 
-/// Who a token stands for.
+/// Returns the actor or parameter that a token refers to, if it refers to one.
 pub fn who_of(alloc: Global, token: &ScriptToken) -> Result<Option<Who>, AllocError>
     ensures { IfOk result (λ found. found ≡ grammar.who_of token.now) }
 {
@@ -73,7 +75,7 @@ pub fn who_of(alloc: Global, token: &ScriptToken) -> Result<Option<Who>, AllocEr
     }
 }
 
-/// The value that a word is.
+/// Returns the value that a word spells, if it is one.
 fn atom_named(alloc: Global, word: &Name) -> Result<Option<Atom>, AllocError>
     ensures { IfOk result (λ found. found ≡ grammar.atom_named word.now) }
 {
@@ -96,7 +98,7 @@ fn atom_named(alloc: Global, word: &Name) -> Result<Option<Atom>, AllocError>
     }
 }
 
-/// The value that a token is.
+/// Returns the value that a token spells, if it is one.
 pub fn atom_of(alloc: Global, token: &ScriptToken) -> Result<Option<Atom>, AllocError>
     ensures { IfOk result (λ found. found ≡ grammar.atom_of token.now) }
 {
@@ -110,7 +112,7 @@ pub fn atom_of(alloc: Global, token: &ScriptToken) -> Result<Option<Atom>, Alloc
     }
 }
 
-/// The keyword that a word is.
+/// Returns the keyword that a word is, if it is one.
 fn keyword_named(word: &[u8]) -> Option<Keyword>
     ensures { result ≡ grammar.keyword_named word.now }
 {
@@ -143,7 +145,7 @@ fn keyword_named(word: &[u8]) -> Option<Keyword>
     }
 }
 
-/// The keyword that a token is.
+/// Returns the keyword that a token is, if it is one.
 pub fn keyword_of(token: &ScriptToken) -> Option<Keyword>
     ensures { result ≡ grammar.keyword_of token.now }
 {

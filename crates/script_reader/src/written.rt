@@ -1,6 +1,8 @@
+//! Written values, and what they refer to.
+
 use ipdl_base::Name;
 
-/// Who a statement speaks of.
+/// The actor or parameter that a statement refers to.
 #[derive(Drop)]
 pub enum Who {
     /// The top actor.
@@ -9,10 +11,10 @@ pub enum Who {
     This,
     /// The actor that a handled constructor built.
     Made,
-    /// The parameter of the handled message with this number, from 1. A number above the greatest
-    /// one is read as that.
+    /// The parameter of the handled message with this number, counted from 1. A number above the
+    /// greatest `u32` is read as the greatest.
     Param(u32),
-    /// The actor that a name holds.
+    /// The actor with this name.
     Name(Name),
 }
 
@@ -20,13 +22,14 @@ pub enum Who {
 #[derive(Drop)]
 pub enum Atom {
     Bool(bool),
-    /// A whole number. One beyond 2^64, or below -2^64, is read as that: no type has it.
+    /// A whole number. A number beyond 2^64 is read as 2^64, and one below -2^64 as -2^64: no type has
+    /// either.
     Number(i128),
     /// Text, in UTF-8.
     Text(Name),
     /// The bytes that hexadecimal digits spell.
     Bytes(Name),
-    /// What an empty maybe or `UniquePtr` holds.
+    /// The content of an empty maybe or `UniquePtr`.
     Nothing,
     /// No actor.
     Null,
@@ -39,16 +42,17 @@ pub enum Atom {
 #[derive(Drop)]
 pub enum WrittenValue {
     Atom(Atom),
-    /// A struct, by its fields.
+    /// A struct: its fields.
     Struct(WrittenValues),
     Array(WrittenValues),
-    /// A union, by the index of its component. An index above the greatest one is read as that.
+    /// A union: the index of its component, and the value. An index above the greatest `u32` is read as
+    /// the greatest.
     Union(u32, Box<WrittenValue>),
-    /// What a maybe or a `UniquePtr` holds.
+    /// The content of a maybe or a `UniquePtr`.
     Held(Box<WrittenValue>),
 }
 
-/// A list of written values: nothing, or a first one and the rest.
+/// A list of written values: empty, or a first value and the rest.
 #[cycle(written)]
 #[derive(Drop)]
 pub enum WrittenValues {

@@ -1,4 +1,4 @@
--- What is known of the worlds to which choices lead, since they are runs.
+-- What is known of the worlds to which choices lead, because they are runs.
 use Rattle.std.proofs.Common.{◌≡◌, ℕ, ◌<◌, ◌≤◌, true, List, [], ◌∷◌, ◌++◌, Some, None, refl, sym, ap, subst, ◌∙◌, arith}
 use Rattle.std.specs.Prelude.{option_and_then}
 use Rattle.std.specs.List.{AllByRecursion}
@@ -35,7 +35,7 @@ use Rattle.script_steps.proofs.Counting.{choices_are_counted}
 use Rattle.script_steps.proofs.Playing.{choices_are_runs, PlaysOn, plays_on}
 use Rattle.script_runs.specs.Laws.{HasLimit, FitsCase, CaseWorldsFit, ObeysAllLaws, CaseHistoriesObeyAllLaws}
 
--- Choices lead from the beginning to a state.
+-- Choices lead from the start to a state.
 pub record IsCase (setting : Setting) (state : RunState) : Type 0 where
   pub choices : List Choice
   pub plays : played setting choices (beginning_of setting) ≡ Some state
@@ -68,7 +68,7 @@ read-at : (schema : Schema) (w : World) (lines : List Line) (side : Side) → Wo
 read-at schema w lines sides.Parent r = ((read schema lines).parent, r.parent)
 read-at schema w lines sides.Child r = ((read schema lines).child, r.child)
 
--- What is known of each end behind choices.
+-- What is known of each end after choices.
 pub record IsCaseEnd (schema : Schema) (e : End) : Type 0 where
   pub state : IsInState e
   pub once : (n : _) → how_many (owes_answer n) e.stack ≤ 1

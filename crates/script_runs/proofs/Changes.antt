@@ -1,4 +1,4 @@
--- Which dispatches an end has behind a step, and that no two of them have one resolver.
+-- Which dispatches an end has after a step, and that no two of them have the resolver of one request.
 use Rattle.std.proofs.Common.{◌≡◌, inl, inr, ◌≤◌, ℤ, Bool, true, false, not, cond, if◌then◌else◌, List, [], ◌∷◌, drop, Option, Some, None, option_and_then, refl, sym, ap, subst, ◌∙◌, arith}
 use Rattle.std.specs.List.{AllByRecursion, cons_option}
 use Rattle.std.specs.Option.{option_map_or}

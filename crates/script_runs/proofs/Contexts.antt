@@ -1,4 +1,4 @@
--- What terms are seen with in a run fits their block.
+-- The context of terms in a run fits their block.
 use Rattle.std.proofs.Common.{◌≡◌, ◌≢◌, ℕ, ℤ, pos, true, false, List, [], ◌∷◌, find, Option, Some, None, option_and_then, refl, sym, subst}
 use Rattle.std.specs.Prelude.{option_map, unwrap_or}
 use Rattle.std.specs.List.{AllByRecursion}
@@ -26,7 +26,7 @@ use Rattle.script_runs.proofs.Leaves.{HoldsNoNull, NamesNoNull, NameNoNulls}
 living-some : (id : ℤ) → IsLivingId id → id ≢ pos 0
 living-some id h is = absurd ((subst IsLivingId is h).0.le)
 
--- what a name stands for is not null
+-- the actor of a name is not null
 content-some : (content : NameContent) → HoldsNoNull content → unwrap_or (actor_in content) no_id ≢ pos 0
 content-some (actor id) h = h
 content-some (resolver r) h = λ is. cc

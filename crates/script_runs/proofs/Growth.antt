@@ -1,4 +1,4 @@
--- What choices do behind others, and the lines that they add.
+-- What choices do after others, and the lines that they add.
 use Rattle.std.proofs.Common.{◌≡◌, false, List, [], ◌∷◌, ◌++◌, map, Some, option_and_then, refl, sym, ap, ◌∙◌, append_assoc}
 use Rattle.std.proofs.lemmas.List.{append-nil}
 use Rattle.ipdl_base.specs.declared.line.Line.{Line}
@@ -11,15 +11,15 @@ use Rattle.script_steps.proofs.Playing.{Chooses, chooses, PlaysOn, plays_on}
 use Rattle.script_steps.proofs.StepLines.{Prints, step-prints}
 use Rattle.script_steps.specs.Choices.{Setting, Choice, chosen, played}
 
--- Choices behind others
+-- Choices after others
 
-pub plays-behind : (setting : Setting) (first more : List Choice) (from between last : RunState) → played setting first from ≡ Some between → played setting more between ≡ Some last → played setting (first ++ more) from ≡ Some last
-plays-behind setting [] more from between last h k =
+pub plays-following : (setting : Setting) (first more : List Choice) (from between last : RunState) → played setting first from ≡ Some between → played setting more between ≡ Some last → played setting (first ++ more) from ≡ Some last
+plays-following setting [] more from between last h k =
     let same : from ≡ between = cc in
     ap (played setting more) same ∙ k
-plays-behind setting (choice ∷ first) more from between last h k =
+plays-following setting (choice ∷ first) more from between last h k =
     let p : PlaysOn setting choice first from between = plays_on setting choice first from between h in
-    ap (option_and_then (played setting (first ++ more))) p.first ∙ plays-behind setting first more p.next between last p.rest k
+    ap (option_and_then (played setting (first ++ more))) p.first ∙ plays-following setting first more p.next between last p.rest k
 
 -- What choices add begins with an event
 

@@ -1,4 +1,4 @@
--- The handlers that lines tell of stay those that the stack has, as they were taken.
+-- The handlers that lines show remain those of the stack, as they were taken.
 use Rattle.std.proofs.Common.{◌≡◌, inl, inr, ℕ, suc, ◌+◌, ◌≤◌, ℤ, pos, Bool, true, false, ◌==◌, ◌&&◌, ◌||◌, cond, if◌then◌else◌, List, [], ◌∷◌, map, drop, Some, None, option_and_then, refl, sym, ap, subst, ◌∙◌, arith}
 use Rattle.std.specs.Prelude.{take}
 use Rattle.std.specs.List.{AllByRecursion, AllZip, list_any}
@@ -55,11 +55,11 @@ use Rattle.script_runs.proofs.Leaves.{NameNoNulls}
 use Rattle.script_runs.proofs.NextSteps.{IsNext}
 use Rattle.script_runs.proofs.NextSteps as next
 use Rattle.script_runs.proofs.Progressing.{effects-stay, acted, act-handled, act-takes, whats-back, first-is}
-use Rattle.script_runs.proofs.Shows.{Behind, ShowsAct, ShowsPassing, ShowsHandling, Shows, built_lines}
+use Rattle.script_runs.proofs.Shows.{Following, ShowsAct, ShowsPassing, ShowsHandling, Shows, built_lines}
 use Rattle.script_runs.proofs.ValidBlocks.{IsHandlerAction, handler-action, action-in, none-more, answering-row}
 
--- What stays known of a request whose handler runs: its values and what it made, where there is a limit; and its
--- resolver, where the script is valid.
+-- What remains known of a request whose handler runs: its values and what it made, if there is a limit; and its resolver,
+-- if the script is valid.
 pub record IsKept (setting : Setting) (side : Side) (entry : StackEntry) (request : HandledRequest) : Type 0 where
   pub dispatch : IsDispatchOf entry request
   pub given : HasLimit setting → (row : MessageRow) → request_row setting.schema request.number ≡ Some row → HaveTypes setting.schema row.params request.given
@@ -126,7 +126,7 @@ one-left n x xs h k =
     let z : one_if (owes_answer n x) ≡ 1 = ap one_if h in
     omega (arith, z, k)
 
--- what is related to nothing is nothing
+-- what is related to an empty list is empty
 pub zip-empty : {A B : Type 0} (R : A → B → Type 0) (ys : List B) → AllZip R [] ys → ys ≡ []
 zip-empty R [] h = refl
 zip-empty R (y ∷ ys) h = absurd h
@@ -135,9 +135,9 @@ module _ (setting : Setting) (e : End) (p : Progress) (known : IsCaseEnd setting
   Kept : StackEntry → HandledRequest → Type 0
   Kept = IsKept setting e.side
 
-  -- A step shows by a first line, and effects behind.
+  -- A step shows by a first line, followed by effects.
 
-  finish : {x : Event} (output : Output) (w : What) (entries : List StackEntry) (hs : List HandledRequest) → Behind e w entries output → (pr : Prints e x output) → (after_line p w).handled ≡ hs → (after_line p w).takes ≡ false → AllZip (IsKept setting e.side) entries hs
+  finish : {x : Event} (output : Output) (w : What) (entries : List StackEntry) (hs : List HandledRequest) → Following e w entries output → (pr : Prints e x output) → (after_line p w).handled ≡ hs → (after_line p w).takes ≡ false → AllZip (IsKept setting e.side) entries hs
       → AllZip (IsKept setting e.side) (dispatches output.end.stack) (after_lines p (pr.first ∷ pr.rest)).handled
   finish output w entries hs b pr is none zip =
       let first : pr.first ≡ w = first-is e.side pr.first w pr.rest b.more (sym pr.lines ∙ b.lines) in
@@ -165,11 +165,11 @@ module _ (setting : Setting) (e : End) (p : Progress) (known : IsCaseEnd setting
       none-more answers_handled (actions_for setting.script e.side request) request.acts a (action-in setting.script e.side request a is)
       (ap (λ n. list_any answers_handled (take n (actions_for setting.script e.side request))) (sym (plus-one request.acts)) ∙ h)
 
-  -- an act that does not answer leaves all as it was
+  -- an act that does not answer changes nothing
   acts-silent : (entry : StackEntry) (request : HandledRequest) (a : Action) → handler_action setting.script e.side request ≡ Some a → IsKept setting e.side entry request → IsKept setting e.side entry (record request { acts = request.acts + 1 })
   acts-silent entry request a is k = record { dispatch = k.dispatch; given = k.given; made = k.made; unused = λ v row found promises h. k.unused v row found promises (more-answered request a is h).0 }
 
-  -- one that answers may use the resolver
+  -- an act that answers may use the resolver
   acts-answering : (b : Bool) (entry : StackEntry) (request : HandledRequest) (a : Action) → handler_action setting.script e.side request ≡ Some a → answers_handled a ≡ true → IsKept setting e.side entry request
       → IsKept setting e.side (if b then record entry { resolves = false } else entry) (record request { acts = request.acts + 1 })
   acts-answering true entry request a is answers k = record { dispatch = k.dispatch; given = k.given; made = k.made; unused = λ v row found promises h. absurd (true≢false (sym answers ∙ (more-answered request a is h).1)) }
@@ -246,7 +246,7 @@ module _ (setting : Setting) (e : End) (p : Progress) (known : IsCaseEnd setting
         by action.Close same output pr shows = finish-act output (dispatches e.stack) shows pr silent-zip
         by action.Die same output pr shows = finish output what.Die [] [] shows pr refl refl tt
 
-  -- Acts of a main, under which nothing is handled
+  -- Acts of a main, during which nothing is handled
 
   none-handled : e.stack ≡ [] → p.handled ≡ []
   none-handled is = zip-empty (IsKept setting e.side) p.handled (subst (λ (xs : List StackEntry). AllZip (IsKept setting e.side) (dispatches xs) p.handled) is related)
@@ -292,7 +292,7 @@ module _ (setting : Setting) (e : End) (p : Progress) (known : IsCaseEnd setting
         (decides_types.values setting.schema sh.row.params given-values).0
         (nulls_keep_types.taken setting.schema e.actors sh.row.params sh.vs ∙ (decides_types.values setting.schema sh.row.params sh.vs).1 (taken-request limit).types)
 
-    -- the request as it is taken, with the id that it has made
+    -- the request as it is taken, with the id of the actor that it made
     kept-taken : (block : ℕ) (made : ℤ) → (HasLimit setting → IsMadeBy sh.row.kind made)
         → IsKept setting e.side (dispatch_of sh.row sh.m) (record { seq = sh.m.seq; number = sh.m.number; block = block; acts = 0; given = given-values; made = made })
     kept-taken block made is_made = record {
@@ -339,7 +339,7 @@ module _ (setting : Setting) (e : End) (p : Progress) (known : IsCaseEnd setting
   pub delivery-kept : (output : Output) → Shows setting.schema e event.deliver output → (pr : Prints e event.deliver output) → AllZip (IsKept setting e.side) (dispatches output.end.stack) (after_lines p (pr.first ∷ pr.rest)).handled
   delivery-kept output shows pr = finish-passing output (dispatches e.stack) shows pr related
 
--- names hold no null behind a step
+-- no name is bound to null after a step
 pub names-kept : (schema : Schema) (e : End) (x : Event) (output : Output) → Shows schema e x output → NameNoNulls e → NameNoNulls output.end
 names-kept schema e (event.send route number vs name) output shows n = shows.2.names n
 names-kept schema e (event.answer (handled seq) vs) output (inl shows) n = shows.2.names n

@@ -1,4 +1,4 @@
--- In every run of a script the handlers that lines tell of are the dispatches of the stack, as they were taken.
+-- In every run of a script the handlers that lines show are the dispatches of the stack, as they were taken.
 use Rattle.std.proofs.Common.{◌≡◌, ◌⊎◌, inl, inr, ◌≤◌, ℤ, Bool, true, false, ◌&&◌, ◌||◌, cond, if◌then◌else◌, List, [], ◌∷◌, ◌++◌, find, Some, None, refl, sym, ap, subst, ◌∙◌, append_assoc, arith}
 use Rattle.std.specs.Prelude.{option_map}
 use Rattle.std.specs.List.{AllByRecursion, AllZip}
@@ -36,12 +36,12 @@ use Rattle.script_runs.proofs.Leaves.{NameNoNulls}
 use Rattle.script_runs.proofs.NextSteps.{next-is}
 use Rattle.script_runs.proofs.Shows.{Shows, step-shows}
 
--- What stays of a side.
+-- What remains true of a side.
 pub record KeepsSide (setting : Setting) (state : RunState) (side : Side) : Type 0 where
   pub handled : AllZip (IsKept setting side) (dispatches (end_of side state.world).stack) (progress_of side state.lines).handled
   pub names : NameNoNulls (end_of side state.world)
 
--- the event of a choice is a delivery, or the next one of the side
+-- the event of a choice is a delivery, or the next event of the side
 event-of : (setting : Setting) (choice : Choice) (state : RunState) (x : Event) (delivers : Bool) → (if delivers then (if may_deliver choice.side state.world then Some event.deliver else None) else own_event setting choice.side state) ≡ Some x
     → (x ≡ event.deliver) ⊎ (own_event setting choice.side state ≡ Some x)
 event-of setting choice state x true h = inl (by (may_deliver choice.side state.world) h)
@@ -190,21 +190,21 @@ resolver-owes : (n : ℤ) (x : StackEntry) → has_resolver n x ≡ true → owe
 resolver-owes n x h = owes-if (is_dispatch x.frame) x.resolves (head_of x.frame).sync (int_eq (head_of x.frame).seq n) h
 
 -- the one dispatch that has the resolver of a number is found by it
-found-through : (n : ℤ) (x : StackEntry) (before behind : List StackEntry) → has_resolver n x ≡ true → how_many (owes_answer n) (before ++ x ∷ behind) ≤ 1 → find (has_resolver n) (before ++ x ∷ behind) ≡ Some x
-found-through n x [] behind h few = ap (λ b. cond b (Some x) (find (has_resolver n) behind)) h
-found-through n x (y ∷ before) behind h few = by (has_resolver n y) refl (λ k. found-through n x before behind h k)
+found-through : (n : ℤ) (x : StackEntry) (before following : List StackEntry) → has_resolver n x ≡ true → how_many (owes_answer n) (before ++ x ∷ following) ≤ 1 → find (has_resolver n) (before ++ x ∷ following) ≡ Some x
+found-through n x [] following h few = ap (λ b. cond b (Some x) (find (has_resolver n) following)) h
+found-through n x (y ∷ before) following h few = by (has_resolver n y) refl (λ k. found-through n x before following h k)
   where
-    by : (b : Bool) → has_resolver n y ≡ b → (how_many (owes_answer n) (before ++ x ∷ behind) ≤ 1 → find (has_resolver n) (before ++ x ∷ behind) ≡ Some x) → find (has_resolver n) (y ∷ before ++ x ∷ behind) ≡ Some x
+    by : (b : Bool) → has_resolver n y ≡ b → (how_many (owes_answer n) (before ++ x ∷ following) ≤ 1 → find (has_resolver n) (before ++ x ∷ following) ≡ Some x) → find (has_resolver n) (y ∷ before ++ x ∷ following) ≡ Some x
     by true is rest =
         let one : one_if (owes_answer n y) ≡ 1 = ap one_if (resolver-owes n y is) in
         let two : one_if (owes_answer n x) ≡ 1 = ap one_if (resolver-owes n x h) in
-        let split = many-middle (owes_answer n) before x behind in
+        let split = many-middle (owes_answer n) before x following in
         absurd (omega (arith, few, one, two, split))
-    by false is rest = ap (λ b. cond b (Some y) (find (has_resolver n) (before ++ x ∷ behind))) is ∙ rest (omega (arith, few))
+    by false is rest = ap (λ b. cond b (Some y) (find (has_resolver n) (before ++ x ∷ following))) is ∙ rest (omega (arith, few))
 
 module _ (setting : Setting) (side : Side) (e : End) (limit : HasLimit setting) (valid : IsValid setting.schema setting.script) (known : IsCaseEnd setting.schema e) where
-  stands-one : (x : StackEntry) (request : HandledRequest) (before behind : List StackEntry) → e.stack ≡ before ++ x ∷ behind → is_dispatch x.frame ≡ true → FitsEntry setting.schema x → IsKept setting side x request → IsHandlerOf setting.schema setting.script side e x request
-  stands-one x request before behind is dispatch f k =
+  stands-one : (x : StackEntry) (request : HandledRequest) (before following : List StackEntry) → e.stack ≡ before ++ x ∷ following → is_dispatch x.frame ≡ true → FitsEntry setting.schema x → IsKept setting side x request → IsHandlerOf setting.schema setting.script side e x request
+  stands-one x request before following is dispatch f k =
       let found : request_row setting.schema request.number ≡ Some f.row = subst (λ n. request_row setting.schema n ≡ Some f.row) k.dispatch.1 f.request.found in
       record {
         is_dispatch = k.dispatch;
@@ -216,8 +216,8 @@ module _ (setting : Setting) (side : Side) (e : End) (limit : HasLimit setting) 
         unused = k.unused valid f.row found;
         resolver = λ resolves.
             let h : has_resolver request.seq x ≡ true = resolver-is request.seq x dispatch resolves (ap (λ n. int_eq n request.seq) k.dispatch.0 ∙ int-same request.seq) in
-            let few : how_many (owes_answer request.seq) (before ++ x ∷ behind) ≤ 1 = subst (λ (xs : List StackEntry). how_many (owes_answer request.seq) xs ≤ 1) is (known.once request.seq) in
-            ap (λ (xs : List StackEntry). option_map resolver_in (find (has_resolver request.seq) xs)) is ∙ ap (option_map resolver_in) (found-through request.seq x before behind h few);
+            let few : how_many (owes_answer request.seq) (before ++ x ∷ following) ≤ 1 = subst (λ (xs : List StackEntry). how_many (owes_answer request.seq) xs ≤ 1) is (known.once request.seq) in
+            ap (λ (xs : List StackEntry). option_map resolver_in (find (has_resolver request.seq) xs)) is ∙ ap (option_map resolver_in) (found-through request.seq x before following h few);
       }
 
   pub stand-all : (before xs : List StackEntry) (requests : List HandledRequest) → e.stack ≡ before ++ xs → AllByRecursion (FitsEntry setting.schema) xs → AllZip (IsKept setting side) (dispatches xs) requests → AllZip (IsHandlerOf setting.schema setting.script side e) (dispatches xs) requests

@@ -1,4 +1,4 @@
--- Parts of steps that add lines behind, leave the dispatches of the stack, and keep names from holding null.
+-- Parts of steps that add lines at the end, do not change the dispatches of the stack, and bind no name to null.
 use Rattle.std.proofs.Common.{◌≡◌, ◌≢◌, ℕ, ◌+◌, ℤ, pos, Bool, true, false, not, List, [], ◌∷◌, ◌++◌, map, flat_map, Option, Some, None, refl, sym, ap, subst, ◌∙◌, append_assoc}
 use Rattle.std.specs.List.{AllByRecursion}
 use Rattle.std.proofs.lemmas.List.{append-nil}
@@ -19,13 +19,14 @@ use Rattle.promise_table.specs.Promises as promises
 use Rattle.channel_model.specs.Ends.{End, Packet, message, Resolver, NameContent, actor, resolver, Naming}
 use Rattle.channel_model.specs.Falls as falls
 use Rattle.channel_model.specs.Names.{has_name, held_by_name, without_name, without_resolvers, is_actor, let_go, holding, renamed}
-use Rattle.channel_model.specs.Numbers.{top_id, makes_promise, is_sync_row, counting}
+use Rattle.ipdl_base.specs.Sides.{top_id}
+use Rattle.channel_model.specs.Numbers.{makes_promise, is_sync_row, counting}
 use Rattle.channel_model.specs.Outputs.{Output, Change, unchanged, ◌▷◌, when, on_end, line, line_at, put, is_open, when_open, AnsweredRequest, answered, destroyed, answer_line, body_of, reply_to, resolver_answered}
 use Rattle.channel_model.specs.Sends as send
 use Rattle.channel_model.proofs.Known.{all-append, all-filter}
 use Rattle.script_runs.specs.Dispatches.{dispatches}
 
--- what a name holds is not null
+-- the actor of a name is not null
 abbrev pub HoldsNoNull : NameContent → Type 0
 HoldsNoNull (actor id) = id ≢ pos 0
 HoldsNoNull (resolver r) = Unit {0}
@@ -36,7 +37,7 @@ NamesNoNull naming = HoldsNoNull naming.holds
 abbrev pub NameNoNulls : End → Type 0
 NameNoNulls e = AllByRecursion NamesNoNull e.names
 
--- an output goes on to another: with lines behind, the same dispatches, and names that hold no null
+-- an output continues to another: with more lines, the same dispatches, and no name that is bound to null
 pub record Leads (o p : Output) : Type 0 where
   pub more : List Line
   pub lines : p.lines ≡ o.lines ++ more
@@ -67,11 +68,11 @@ pub leaves-when : (b : Bool) (c : Change) → Leaves c → Leaves (when b c)
 leaves-when true c h o = h o
 leaves-when false c h o = leads-same o
 
--- a change of the end that leaves its dispatches and its names
+-- a change of the end that keeps its dispatches and its names
 pub leaves-end : (f : End → End) → ((e : End) → dispatches (f e).stack ≡ dispatches e.stack) → ((e : End) → (f e).names ≡ e.names) → Leaves (on_end f)
 leaves-end f h k o = record { more = []; lines = sym (append-nil o.lines); stack = h o.end; names = λ n. subst (AllByRecursion NamesNoNull) (sym (k o.end)) n }
 
--- a change of names alone
+-- a change of names only
 pub leaves-names : (f : List Naming → List Naming) → ((names : List Naming) → AllByRecursion NamesNoNull names → AllByRecursion NamesNoNull (f names)) → Leaves (on_end (λ e. record e { names = f e.names }))
 leaves-names f h o = record { more = []; lines = sym (append-nil o.lines); stack = refl; names = h o.end.names }
 
@@ -97,7 +98,7 @@ leaves-let_go None o = leads-same o
 leaves-let_go (Some (actor id)) o = leads-same o
 leaves-let_go (Some (resolver r)) o = leaves-destroyed r o
 
--- what a name is to hold is no null
+-- the actor that a name will be bound to is not null
 abbrev pub IsNoNull : Option NameContent → Type 0
 IsNoNull None = Unit {0}
 IsNoNull (Some holds) = HoldsNoNull holds
@@ -167,9 +168,9 @@ leaves-names_actor : (id : ℤ) (name : Option (List ℕ)) → NamesSome id name
 leaves-names_actor id None h o = leads-same o
 leaves-names_actor id (Some name) h o = leaves-renamed name (Some (actor id)) h o
 
--- what a request does behind its line
-abbrev pub behind_line : MessageRow → Message → Option (List ℕ) → Change
-behind_line row m name =
+-- what a request does after its line
+abbrev pub following_line : MessageRow → Message → Option (List ℕ) → Change
+following_line row m name =
     on_end (λ e. record e { sent = e.sent + 1; constructors_sent = counting row.kind e.constructors_sent })
     ▷ send.posted row m
     ▷ send.awaits_reply row m
@@ -177,7 +178,7 @@ behind_line row m name =
     ▷ send.constructs m.made m.route row.kind
     ▷ falls.deletes m.route row.kind
 
-pub leaves-sent : (row : MessageRow) (m : Message) (name : Option (List ℕ)) → NamesSome m.made name → Leaves (behind_line row m name)
+pub leaves-sent : (row : MessageRow) (m : Message) (name : Option (List ℕ)) → NamesSome m.made name → Leaves (following_line row m name)
 leaves-sent row m name h =
     let counts : Change = on_end (λ e. record e { sent = e.sent + 1; constructors_sent = counting row.kind e.constructors_sent }) in
     let last : Change = send.constructs m.made m.route row.kind ▷ falls.deletes m.route row.kind in

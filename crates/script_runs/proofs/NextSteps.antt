@@ -1,4 +1,4 @@
--- What an event is that a side does next, case by case.
+-- Which event a side does next, case by case.
 use Rattle.std.proofs.Common.{◌≡◌, Bool, true, false, if◌then◌else◌, List, [], ◌∷◌, Option, Some, None, is_some, refl, subst}
 use Rattle.std.specs.Prelude.{option_map}
 use Rattle.std.specs.Option.{option_map_or}

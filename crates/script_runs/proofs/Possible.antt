@@ -12,12 +12,9 @@ use Rattle.handler_script.specs.Messages.{if_async, if_sync, resolves, replies}
 use Rattle.handler_script.specs.ScriptOf.{reply_at}
 use Rattle.handler_script.specs.Valid.{EachTermFits, IsSendable, IsValidAction, IsValid, answers_handled}
 use Rattle.handler_script.specs.ValueOf.{TermContext, no_id, id_of, values_of}
-use Rattle.ipdl_base.specs.declared.kinds.Direction.{Direction}
-use Rattle.ipdl_base.specs.declared.kinds.Direction.TheVariants as direction
 use Rattle.ipdl_base.specs.declared.kinds.Semantics.{Semantics}
 use Rattle.ipdl_base.specs.declared.kinds.Semantics.TheVariants.{Async, Sync}
 use Rattle.ipdl_base.specs.declared.kinds.Side.{Side}
-use Rattle.ipdl_base.specs.declared.kinds.Side.TheVariants as sides
 use Rattle.ipdl_base.specs.declared.schema.Kind.{Kind}
 use Rattle.ipdl_base.specs.declared.schema.Kind.TheVariants.{Normal, Constructor, Delete}
 use Rattle.ipdl_base.specs.declared.schema.MessageRow.{MessageRow}
@@ -38,7 +35,8 @@ use Rattle.channel_model.specs.Ends.{End, Packet, StackEntry, Resolver, end_of, 
 use Rattle.channel_model.specs.Events.{Event, handled, kept}
 use Rattle.channel_model.specs.Events as event
 use Rattle.channel_model.specs.Fitting.{FitsEntry, IsFitting}
-use Rattle.channel_model.specs.Numbers.{sends, is_constructor, makes_promise, request_row}
+use Rattle.ipdl_base.specs.Sides.{sends}
+use Rattle.channel_model.specs.Numbers.{is_constructor, makes_promise, request_row}
 use Rattle.channel_model.specs.Outputs.{Output, Change, is_open, is_dead_end}
 use Rattle.channel_model.specs.Returns.{AnsweredWait, dispatch_on_top, may_return, return, answered_wait_on_top, resume, may_flush, flush}
 use Rattle.channel_model.specs.Runs.{RunState}
@@ -84,7 +82,7 @@ delivered-some true change e (Some packet) h = refl
 delivered-some true change e None h = cc
 delivered-some false change e found h = cc
 
--- an event that is no delivery
+-- an event that is not a delivery
 abbrev pub IsNoDelivery : Event → Type 0
 IsNoDelivery event.deliver = ⊥
 IsNoDelivery _ = Unit {0}
@@ -106,14 +104,6 @@ allowed-possible schema e link event.resume own h =
 allowed-possible schema e link event.flush own h = provided-some (may_flush e) flush e h
 
 -- Rows
-
-same-sends : (side : Side) (d : Direction) → messages.sends side d ≡ sends side d
-same-sends sides.Parent direction.Parent = refl
-same-sends sides.Parent direction.Child = refl
-same-sends sides.Parent direction.Both = refl
-same-sends sides.Child direction.Parent = refl
-same-sends sides.Child direction.Child = refl
-same-sends sides.Child direction.Both = refl
 
 same-constructor : (kind : Kind) → messages.is_constructor kind ≡ is_constructor kind
 same-constructor Normal = refl
@@ -155,7 +145,7 @@ module _ (schema : Schema) (e : End) (block : BlockContext) (context : TermConte
     row,
     row-found schema number row found s.0,
     all-true (may_act e) row.carried (sends e.side row.direction) (have_types schema row.params (values_of context ts)) (is_none name || is_constructor row.kind) may s.2
-        (ap (λ side. sends side row.direction) (sym own) ∙ sym (same-sends (side_of block) row.direction) ∙ s.1) (typed row.params ts s.3) named,
+        (ap (λ side. sends side row.direction) (sym own) ∙ s.1) (typed row.params ts s.3) named,
   )
 
   sends-found : (who : ℤ) (number : ℕ) (ts : Terms) (name : Option (List ℕ)) (P : MessageRow → Type 0) (found : Option MessageRow) → message_of schema number ≡ found
@@ -313,7 +303,7 @@ module _ (setting : Setting) (e : End) (p : Progress) (valid : IsValid setting.s
   next-allowed _ (next.resumes head on_top) = resume-allowed head e.stack refl on_top fits.stack
   next-allowed _ (next.flushes may) = may
 
--- no step of an end's own is a delivery
+-- no step that an end makes on its own is a delivery
 
 action-own : (context : TermContext) (seq : ℤ) (a : Action) → IsNoDelivery (event_of context seq a)
 action-own context seq (action.Send who number terms) = tt

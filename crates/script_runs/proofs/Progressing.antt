@@ -9,16 +9,16 @@ use Rattle.ipdl_base.specs.Lines.{is_effect}
 use Rattle.channel_model.specs.Outputs.{line_at}
 use Rattle.script_steps.specs.Progress.{HandledRequest, Progress, is_act, one_event, one_act, with_built, with_handled, after_line, after_lines}
 
--- an effect behind an event that is no take
-record StaysBehind (p q : Progress) : Type 0 where
+-- an effect after an event that is not a take
+record StaysAfter (p q : Progress) : Type 0 where
   handled : q.handled ≡ p.handled
   takes : q.takes ≡ false
 
-built-stays : (b : Bool) (id : ℤ) (p : Progress) → p.takes ≡ b → b ≡ false → StaysBehind p (if b then with_handled (with_built id p.handled) p else p)
+built-stays : (b : Bool) (id : ℤ) (p : Progress) → p.takes ≡ b → b ≡ false → StaysAfter p (if b then with_handled (with_built id p.handled) p else p)
 built-stays true id p is h = cc
 built-stays false id p is h = record { handled = refl; takes = is }
 
-effect-stays : (p : Progress) (w : What) → is_effect w ≡ true → p.takes ≡ false → StaysBehind p (after_line p w)
+effect-stays : (p : Progress) (w : What) → is_effect w ≡ true → p.takes ≡ false → StaysAfter p (after_line p w)
 effect-stays p (what.Built a b) h k = built-stays p.takes a p refl k
 effect-stays p (what.Replaced a) h k = record { handled = refl; takes = k }
 effect-stays p (what.AnswerOk a b) h k = record { handled = refl; takes = k }
@@ -33,7 +33,7 @@ pub effects-stay : (p : Progress) (ws : List What) → AllByRecursion (λ w. is_
 effects-stay p [] h k = refl
 effects-stay p (w ∷ ws) h k = let s = effect-stays p w h.0 k in effects-stay (after_line p w) ws h.1 s.takes ∙ s.handled
 
--- one act more of the innermost handler
+-- one more act of the innermost handler
 abbrev pub acted : List HandledRequest → List HandledRequest
 acted [] = []
 acted (request ∷ below) = record request { acts = request.acts + 1 } ∷ below
@@ -66,7 +66,7 @@ act-handled p w h = ap (λ (q : Progress). q.handled) (act-is p w h) ∙ one-han
 pub act-takes : (p : Progress) (w : What) → is_act w ≡ true → (after_line p w).takes ≡ false
 act-takes p w h = ap (λ (q : Progress). q.takes) (act-is p w h) ∙ one-takes p.handled (one_event p) refl
 
--- what lines of a side say
+-- what lines of a side show
 pub whats-back : (side : Side) (ws : List What) → map (λ (line : Line). line.what) (map (line_at side) ws) ≡ ws
 whats-back side [] = refl
 whats-back side (w ∷ ws) = ap (λ vs. w ∷ vs) (whats-back side ws)

@@ -62,7 +62,7 @@ if-none : (b : Bool) (x : Event) → (if b then Some x else None) ≡ None → b
 if-none true x h = cc
 if-none false x h = refl
 
--- What an end with no step of its own has not
+-- What an end with no step of its own does not have
 
 record HasNoWork (e : End) : Type 0 where
   takes : taken_next e ≡ None

@@ -1,4 +1,4 @@
--- How much the sides of a run of a script say and send.
+-- How many lines and packets the sides of a run of a script have.
 use Rattle.std.proofs.Common.{◌≡◌, ◌+◌, ◌*◌, ◌≤◌, Bool, true, false, not, ◌&&◌, cond, List, [], ◌∷◌, length, map, filter, refl, subst, ◌∙◌, arith}
 use Rattle.ipdl_base.specs.declared.kinds.Side.{Side}
 use Rattle.ipdl_base.specs.declared.line.Line.{Line}
@@ -6,7 +6,7 @@ use Rattle.ipdl_base.specs.declared.line.What.{What}
 use Rattle.ipdl_base.specs.Lines.{same_side, is_effect}
 use Rattle.channel_model.specs.Bounds.{unsettled}
 use Rattle.channel_model.specs.Ends.{end_of}
-use Rattle.channel_model.specs.Numbers.{other}
+use Rattle.ipdl_base.specs.Sides.{other}
 use Rattle.channel_model.specs.Runs.{RunState}
 use Rattle.channel_laws.specs.BoundedRuns.{IsBoundedRun, events_of, delivered_at, waiting_of}
 use Rattle.channel_laws.specs.BoundedRuns as bounded

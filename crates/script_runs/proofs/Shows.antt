@@ -1,4 +1,4 @@
--- What each event does to the dispatches of a stack, and what the line is by which it shows.
+-- What each event does to the dispatches of a stack, and which line shows it.
 use Rattle.std.proofs.Common.{◌≡◌, ◌≢◌, ◌⊎◌, inl, inr, ℕ, zero, suc, ◌+◌, ◌*◌, ℤ, pos, Bool, true, false, not, ◌&&◌, ◌||◌, if◌then◌else◌, List, [], ◌∷◌, ◌++◌, map, drop, length, Option, Some, None, is_none, option_and_then, refl, sym, ap, ◌∙◌, arith}
 use Rattle.std.specs.Option.{option_map_or}
 use Rattle.std.proofs.lemmas.List.{append-nil}
@@ -31,7 +31,7 @@ use Rattle.nesting_core.specs.Frames.{head_of}
 use Rattle.pending_queue.specs.declared.item.Item.{Item}
 use Rattle.pending_queue.specs.declared.item.Item.TheVariants as item
 use Rattle.pending_queue.specs.Compression.{replaced}
-use Rattle.pending_queue.specs.Holding.{is_free, without_first}
+use Rattle.pending_queue.specs.DeferralContext.{is_free, without_first}
 use Rattle.channel_model.specs.Acts as acts
 use Rattle.channel_model.specs.Answers as answering
 use Rattle.channel_model.specs.Deliveries as delivery
@@ -40,7 +40,8 @@ use Rattle.channel_model.specs.Events.{Answering, handled, kept, Event}
 use Rattle.channel_model.specs.Events as event
 use Rattle.channel_model.specs.Falls as falls
 use Rattle.channel_model.specs.Names.{has_name, renamed}
-use Rattle.channel_model.specs.Numbers.{id_of, sends, is_sync_row, is_constructor, makes_promise, request_row}
+use Rattle.ipdl_base.specs.Sides.{sends}
+use Rattle.channel_model.specs.Numbers.{id_of, is_sync_row, is_constructor, makes_promise, request_row}
 use Rattle.channel_model.specs.Outputs.{Output, Change, beginning, unchanged, ◌▷◌, when, on_end, line, line_at, put, is_open, answered, destroyed, request_answered}
 use Rattle.channel_model.specs.Returns as returns
 use Rattle.channel_model.specs.Sends as send
@@ -55,29 +56,29 @@ use Rattle.channel_model.proofs.Tests.{and-right}
 use Rattle.promise_table.specs.declared.promise.Outcome.{Outcome}
 use Rattle.script_steps.specs.Progress.{Progress, is_act, after_line}
 use Rattle.script_runs.specs.Dispatches.{dispatches, request_dispatch, body_dispatch, item_dispatch}
-use Rattle.script_runs.proofs.Leaves.{leaves-constructs, NameNoNulls, NamesNoNull, Leaves, leads-same, leaves-unchanged, leaves-both, leaves-when, leaves-end, leaves-line, leaves-put, leaves-open, leaves-answered, leaves-destroyed, IsNoNull, leaves-renamed, leaves-deletes, leaves-closed, NamesSome, behind_line, leaves-sent}
+use Rattle.script_runs.proofs.Leaves.{leaves-constructs, NameNoNulls, NamesNoNull, Leaves, leads-same, leaves-unchanged, leaves-both, leaves-when, leaves-end, leaves-line, leaves-put, leaves-open, leaves-answered, leaves-destroyed, IsNoNull, leaves-renamed, leaves-deletes, leaves-closed, NamesSome, following_line, leaves-sent}
 
--- An output behind a first line, with these dispatches.
-pub record Behind (e : End) (w : What) (entries : List StackEntry) (output : Output) : Type 0 where
+-- An output after a first line, with these dispatches.
+pub record Following (e : End) (w : What) (entries : List StackEntry) (output : Output) : Type 0 where
   pub more : List Line
   pub lines : output.lines ≡ line_at e.side w ∷ more
   pub stack : dispatches output.end.stack ≡ entries
   pub names : NameNoNulls e → NameNoNulls output.end
 
-begins : (e : End) (w : What) (c : Change) → Leaves c → Behind e w (dispatches e.stack) (c (line w (beginning e)))
+begins : (e : End) (w : What) (c : Change) → Leaves c → Following e w (dispatches e.stack) (c (line w (beginning e)))
 begins e w c h = let k = h (line w (beginning e)) in record { more = k.more; lines = k.lines; stack = k.stack; names = k.names }
 
--- a line that is neither an act nor of a handler: the handlers stay, and no take is open
+-- a line of neither an act nor a handler: the handlers do not change, and no take is open
 abbrev pub Passes : What → Type 0
 Passes w = (p : Progress) → ((after_line p w).handled ≡ p.handled) × ((after_line p w).takes ≡ false)
 
--- an act, behind which the dispatches are these
+-- an act, after which the dispatches are these
 abbrev pub ShowsAct : End → List StackEntry → Output → Type 0
-ShowsAct e entries output = (w : What) × (is_act w ≡ true) × Behind e w entries output
+ShowsAct e entries output = (w : What) × (is_act w ≡ true) × Following e w entries output
 
--- something else, which leaves the dispatches
+-- something else, which does not change the dispatches
 abbrev pub ShowsPassing : End → List StackEntry → Output → Type 0
-ShowsPassing e entries output = (w : What) × Passes w × Behind e w entries output
+ShowsPassing e entries output = (w : What) × Passes w × Following e w entries output
 
 -- the line of an actor that a request builds as it is handled
 abbrev pub built_lines : ℤ → Kind → List What
@@ -112,10 +113,10 @@ Shows schema e (event.answer (kept name number) vs) output = ShowsAct e (dispatc
 Shows schema e (event.keep seq name) output = ShowsAct e (dispatches (answering.released seq e.stack)) output
 Shows schema e (event.name name id) output = ShowsAct e (dispatches e.stack) output
 Shows schema e event.close output = ShowsAct e (dispatches e.stack) output
-Shows schema e event.die output = Behind e what.Die [] output
+Shows schema e event.die output = Following e what.Die [] output
 Shows schema e event.deliver output = ShowsPassing e (dispatches e.stack) output
 Shows schema e event.take output = (ShowsPassing e (dispatches e.stack) output × (taken_dispatch schema e ≡ None)) ⊎ ShowsHandling schema e output
-Shows schema e (event.return vs) output = (n : ℤ) × Behind e (what.Return n) (dispatches (drop 1 e.stack)) output
+Shows schema e (event.return vs) output = (n : ℤ) × Following e (what.Return n) (dispatches (drop 1 e.stack)) output
 Shows schema e event.resume output = ShowsPassing e (dispatches (drop 1 e.stack)) output
 Shows schema e event.flush output = ShowsPassing e (dispatches e.stack) output
 
@@ -150,7 +151,7 @@ send-shows : (schema : Schema) (e : End) (row : MessageRow) (route : ℤ) (vs : 
     → ShowsAct e (dispatches e.stack) (send.sent_unless cause row (send.request_of e row route vs) vs name (beginning e))
 send-shows schema e row route vs name h None =
     let m : Message = send.request_of e row route vs in
-    (send.send_line row m vs, send-act (is_sync_row row) m vs, begins e (send.send_line row m vs) (behind_line row m name) (leaves-sent row m name h))
+    (send.send_line row m vs, send-act (is_sync_row row) m vs, begins e (send.send_line row m vs) (following_line row m name) (leaves-sent row m name h))
 send-shows schema e row route vs name h (Some cause) = (what.RefusedSend cause row.number, refl, begins e (what.RefusedSend cause row.number) unchanged leaves-unchanged)
 
 -- Answers
@@ -207,7 +208,7 @@ close-shows e None =
     (what.Close, refl, begins e what.Close rest (leaves-both (put (message acts.goodbye)) (falls.closed destroy.NormalShutdown) (leaves-put (message acts.goodbye)) (leaves-closed destroy.NormalShutdown)))
 close-shows e (Some cause) = (what.RefusedClose cause, refl, begins e (what.RefusedClose cause) unchanged leaves-unchanged)
 
-die-shows : (e : End) → Behind e what.Die [] (acts.die (beginning e))
+die-shows : (e : End) → Following e what.Die [] (acts.die (beginning e))
 die-shows e =
     let k = leaves-open (put mark) (leaves-put mark) (line what.Die (beginning e)) in
     record { more = k.more; lines = k.lines; stack = refl; names = k.names }
@@ -297,7 +298,7 @@ leaves-taken schema m a row o =
 
 -- the end when the item that it takes has left
 abbrev left : End → End
-left e = record e { arrived = without_first (is_free (takes.holding_of e)) e.arrived }
+left e = record e { arrived = without_first (is_free (takes.deferral_context_of e)) e.arrived }
 
 abbrev pub TakeShows : Schema → End → Output → Type 0
 TakeShows schema e output = (ShowsPassing e (dispatches e.stack) output × (taken_dispatch schema e ≡ None)) ⊎ ShowsHandling schema e output
@@ -346,9 +347,9 @@ take-shows schema e (item.Message m sync level) next = taken-shows schema e m sy
 take-shows schema e item.Broken next =
     inl (passing e what.ShutAbnormal (falls.closed destroy.AbnormalShutdown) (λ p. (refl, refl)) (leaves-closed destroy.AbnormalShutdown), ap (option_and_then (item_dispatch schema e)) next)
 
--- Returns, calls that go on, and flushes
+-- Returns, calls that continue, and flushes
 
-return-shows : (schema : Schema) (e : End) (row : MessageRow) (entry : StackEntry) (vs : Option Values) → (n : ℤ) × Behind e (what.Return n) (dispatches (drop 1 e.stack)) (returns.return schema e row entry vs (beginning e))
+return-shows : (schema : Schema) (e : End) (row : MessageRow) (entry : StackEntry) (vs : Option Values) → (n : ℤ) × Following e (what.Return n) (dispatches (drop 1 e.stack)) (returns.return schema e row entry vs (beginning e))
 return-shows schema e row entry vs =
     let told : Change = answered (returns.dispatch_answered entry) (returns.return_answer schema e row entry vs) in
     let lost : Change = destroyed (answering.resolver_in entry) in
@@ -391,7 +392,7 @@ step-shows schema e link event.close output is =
     let P : Output → Type 0 = λ o. ShowsAct e (dispatches e.stack) o in
     provided-gives P (send.may_act e) (acts.close e) e output (λ may. close-shows e (acts.close_refusal e)) is
 step-shows schema e link event.die output is =
-    let P : Output → Type 0 = λ o. Behind e what.Die [] o in
+    let P : Output → Type 0 = λ o. Following e what.Die [] o in
     provided-gives P (acts.may_die e) acts.die e output (λ may. die-shows e) is
 step-shows schema e link event.deliver output is =
     let P : Output → Type 0 = λ o. ShowsPassing e (dispatches e.stack) o in
@@ -401,7 +402,7 @@ step-shows schema e link event.take output is =
     let P : Output → Type 0 = λ o. TakeShows schema e o in
     found-gives P (takes.taken_next e) (λ taken. provided true (takes.take schema taken) e) output (λ taken found h. provided-gives P true (takes.take schema taken) e output (λ may. take-shows schema e taken found) h) is
 step-shows schema e link (event.return vs) output is =
-    let P : Output → Type 0 = λ o. (n : ℤ) × Behind e (what.Return n) (dispatches (drop 1 e.stack)) o in
+    let P : Output → Type 0 = λ o. (n : ℤ) × Following e (what.Return n) (dispatches (drop 1 e.stack)) o in
     found-gives P (returns.dispatch_on_top e.stack) (λ entry. option_and_then (λ row. provided (returns.may_return schema row vs) (returns.return schema e row entry vs) e) (request_row schema entry.number)) output
     (λ entry on_top h.
     found-gives P (request_row schema entry.number) (λ row. provided (returns.may_return schema row vs) (returns.return schema e row entry vs) e) output

@@ -1,4 +1,4 @@
--- The text of a line tells the choice that the line tells of.
+-- The text of a line shows the choice that the line records.
 use Rattle.std.proofs.Common.{◌≡◌, ℤ, List, refl}
 use Rattle.ipdl_base.specs.declared.kinds.Side.{Side}
 use Rattle.ipdl_base.specs.declared.kinds.Side.TheVariants as sides

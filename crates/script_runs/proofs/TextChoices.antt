@@ -1,4 +1,4 @@
--- What the lines of transcripts tell, all together.
+-- What all the lines of transcripts show together.
 use Rattle.std.proofs.Common.{◌≡◌, ℕ, ℤ, Bool, true, false, if◌then◌else◌, List, [], ◌∷◌, ◌++◌, codes, Option, Some, None, refl, sym, ap, ◌∙◌}
 use Rattle.std.specs.List.{cons_option, filter_map}
 use Rattle.ipdl_base.specs.declared.line.Line.{Line}
@@ -11,8 +11,8 @@ use Rattle.script_steps.specs.Choices.{Choice, choice_of, choices_of, is_deliver
 use Rattle.script_runs.specs.Replays.{choices_told, told_then}
 use Rattle.script_runs.specs.Told.{choice_told}
 use Rattle.script_runs.proofs.Tells.{line_texts_tell_choices}
-use Rattle.transcript_laws.specs.Printed.{line_texts}
-use Rattle.transcript_laws.specs.Told.{is_effect_text}
+use Rattle.transcripts.specs.Printed.{line_texts}
+use Rattle.transcripts.specs.Told.{is_effect_text}
 
 pub texts-choices : (schema : Schema) (before lines : List Line) → filter_map choice_told (line_texts schema before lines) ≡ choices_of lines
 texts-choices schema before [] = refl
@@ -20,7 +20,7 @@ texts-choices schema before (line ∷ lines) =
     ap (λ (o : Option Choice). cons_option o (filter_map choice_told (line_texts schema (before ++ line ∷ []) lines))) (line_texts_tell_choices schema before line)
     ∙ ap (cons_option (choice_of line)) (texts-choices schema (before ++ line ∷ []) lines)
 
--- What lines tell up to the first that tells nothing
+-- What lines show up to the first that shows nothing
 
 no-choice : (b : Bool) (choice : Choice) → (if b then None else Some choice) ≡ None → b ≡ true
 no-choice true choice h = refl
@@ -43,7 +43,7 @@ told-found None false others h = let k : false ≡ true = h refl in cc
 told-more : (text : List ℕ) (lines : List (List ℕ)) (found : Option Choice) → choice_told text ≡ found → (found ≡ None → is_effect_text text ≡ true) → choices_told (text ∷ lines) ≡ cons_option found (choices_told lines)
 told-more text lines found is effect = ap (λ (o : Option Choice). told_then o (is_effect_text text) (choices_told lines)) is ∙ told-found found (is_effect_text text) (choices_told lines) effect
 
--- the choices that are told by what is printed, and then by what stands behind
+-- the choices that are shown by what is printed, and then by what follows
 pub texts-told : (schema : Schema) (before lines : List Line) (rest : List (List ℕ)) → choices_told (line_texts schema before lines ++ rest) ≡ choices_of lines ++ choices_told rest
 texts-told schema before [] rest = refl
 texts-told schema before (line ∷ lines) rest =

@@ -1,4 +1,4 @@
--- What a valid script says of the actions and replies that a run comes to.
+-- What a valid script guarantees of the actions and replies that a run reaches.
 use Rattle.std.proofs.Common.{◌≡◌, ℕ, zero, suc, ◌+◌, ◌≤◌, ◌==◌, Bool, true, false, ◌&&◌, ◌||◌, cond, if◌then◌else◌, List, [], ◌∷◌, filter, Option, Some, None, refl, sym, ap, subst, ◌∙◌, arith}
 use Rattle.std.specs.Prelude.{is_some, IsSomeAnd, IfSome, option_and_then, take, slice_get, count_by}
 use Rattle.std.specs.List.{AllByRecursion, list_any}
@@ -16,7 +16,8 @@ use Rattle.handler_script.specs.declared.term.Terms.{Terms}
 use Rattle.handler_script.specs.Blocks.{in_main, in_handler}
 use Rattle.handler_script.specs.Messages.{resolves, replies}
 use Rattle.handler_script.specs.ScriptOf.{blocks_for, action_at, reply_at}
-use Rattle.handler_script.specs.Served.{serves, is_side, is_number}
+use Rattle.ipdl_base.specs.Lines.{same_side}
+use Rattle.handler_script.specs.Served.{serves, is_number}
 use Rattle.handler_script.specs.Valid.{EachTermFits, IsValidAction, IsValidIn, IsHandledBy, IsValidBlock, IsValid, answers_handled}
 use Rattle.ipdl_base.specs.declared.kinds.Side.{Side}
 use Rattle.ipdl_base.specs.declared.kinds.Side.TheVariants as sides
@@ -33,7 +34,7 @@ use Rattle.script_steps.specs.Progress.{HandledRequest}
 use Rattle.script_runs.specs.Handlers.{actions_for, has_answered}
 use Rattle.script_runs.specs.Laws.{AnswersComeOnce}
 
--- Lists of which one passes
+-- Lists in which one element passes
 
 abbrev counted : {A : Type 0} → (A → Bool) → List A → ℕ
 counted f [] = 0
@@ -54,7 +55,7 @@ counts-one f (x ∷ xs) (suc i) a is h = by (f x) (counts-one f xs i a is h)
     by true k = omega (arith, k)
     by false k = k
 
--- before the one that passes none does
+-- before the one that passes, no other passes
 none-before : {A : Type 0} (f : A → Bool) (xs : List A) (i : ℕ) (a : A) → counted f xs ≤ 1 → slice_get xs i ≡ Some a → f a ≡ true → list_any f (take i xs) ≡ false
 none-before f [] i a few is h = cc
 none-before f (x ∷ xs) zero a few is h = refl
@@ -64,7 +65,7 @@ none-before f (x ∷ xs) (suc i) a few is h = by (f x) refl few (counts-one f xs
     by true e k one rest = absurd (omega (arith, k, one))
     by false e k one rest = ap (λ (b : Bool). b || list_any f (take i xs)) e ∙ rest k
 
--- one more of a list: where none of them passes, none before did, nor does the one behind
+-- one more element of a list: if no element passes, none before it did, nor does the last
 pub none-more : {A : Type 0} (f : A → Bool) (xs : List A) (i : ℕ) (a : A) → slice_get xs i ≡ Some a → list_any f (take (suc i) xs) ≡ false → (list_any f (take i xs) ≡ false) × (f a ≡ false)
 none-more f [] i a is h = cc
 none-more f (x ∷ xs) zero a is h = by (f x) refl h
@@ -94,7 +95,7 @@ both true false h = cc
 both false true h = cc
 both false false h = cc
 
-side-is : (one other : Side) → is_side one other ≡ true → one ≡ other
+side-is : (one other : Side) → same_side one other ≡ true → one ≡ other
 side-is sides.Parent sides.Parent h = refl
 side-is sides.Parent sides.Child h = cc
 side-is sides.Child sides.Parent h = cc
@@ -117,10 +118,10 @@ serves-at schema script of handled at block v is =
     let found : P block =
     all-at P (blocks_for script of handled) at block (all-passing (λ (b : Block). IsValidBlock schema b b.handles) (serves of handled) script.blocks (recursion_from_All (λ (b : Block). IsValidBlock schema b b.handles) script.blocks v.blocks)) is
     in
-    let parts = both (is_side block.side of) (is_number block.handles handled) found.1 in
+    let parts = both (same_side block.side of) (is_number block.handles handled) found.1 in
     record { valid = subst (IsValidBlock schema block) (number-is block.handles handled parts.1) found.0; side = side-is block.side of parts.0 }
 
--- The message that a block handles, and what it is valid for.
+-- The message that a block handles, and what the block is valid for.
 pub record Handles (schema : Schema) (side : Side) (number : ℕ) (block : Block) : Type 0 where
   pub row : MessageRow
   pub found : request_row schema number ≡ Some row
@@ -146,7 +147,7 @@ handles-at schema script side number at block v is =
     let s : Serves schema side (Some number) block = serves-at schema script side (Some number) at block v is in
     handles-row schema side number block s.side (message_of schema number) refl s.valid
 
--- What is known of an action to which a handler has come.
+-- What is known of an action that a handler has reached.
 pub record IsHandlerAction (schema : Schema) (script : Script) (side : Side) (request : HandledRequest) (a : Action) : Type 0 where
   pub row : MessageRow
   pub found : request_row schema request.number ≡ Some row
@@ -172,7 +173,7 @@ handler-action schema script side request a v h = found-action schema script sid
 pub answers_come_once : AnswersComeOnce
 answers_come_once schema script side request a v h answers = (handler-action schema script side request a v h).once answers
 
--- the action to which a handler has come is the next of its block
+-- the action that a handler has reached is the next of its block
 found-in : (script : Script) (side : Side) (request : HandledRequest) (a : Action) → (found : Option Block) → slice_get (blocks_for script side (Some request.number)) (block_for script side request) ≡ found
     → option_and_then (λ (block : Block). slice_get block.actions request.acts) found ≡ Some a → slice_get (actions_for script side request) request.acts ≡ Some a
 found-in script side request a None is h = cc
@@ -181,7 +182,7 @@ found-in script side request a (Some block) is h = ap (λ (o : Option Block). sl
 pub action-in : (script : Script) (side : Side) (request : HandledRequest) (a : Action) → handler_action script side request ≡ Some a → slice_get (actions_for script side request) request.acts ≡ Some a
 action-in script side request a h = found-in script side request a (slice_get (blocks_for script side (Some request.number)) (block_for script side request)) refl h
 
--- An action to which a main has come.
+-- An action that a main has reached.
 main-found : (schema : Schema) (script : Script) (side : Side) (index : ℕ) (a : Action) → IsValid schema script → (found : Option Block) → slice_get (blocks_for script side None) 0 ≡ found
     → option_and_then (λ (block : Block). slice_get block.actions index) found ≡ Some a → IsValidAction schema (in_main side) a
 main-found schema script side index a v None is h = cc

@@ -56,7 +56,7 @@ setting = record { schema = asking; script = keeping; stop = None; limit = 100 }
 abbrev own : Choice
 own = record { side = sides.Parent; delivers = false }
 
--- the child sends, and the parent gets the request and does so many steps of its own
+-- the child sends, and the parent gets the request and makes a given number of steps of its own
 abbrev choices : List Choice → List Choice
 choices more = record { side = sides.Child; delivers = false } ∷ record { side = sides.Parent; delivers = true } ∷ more
 
@@ -80,26 +80,26 @@ seen state = record {
 abbrev its_resolver : Resolver
 its_resolver = record { seq = negsuc 0; route = pos 2147483647; number = 0 }
 
--- before the take nobody handles it
+-- before the take no handler runs for it
 before_take : option_map seen (played setting (choices []) (beginning_of setting)) ≡ Some (record { seqs = []; handlers = []; answered = []; resolver = None; next = Some true })
 before_take = refl
 
--- as it is taken, and behind an act that does not answer, the handler has its resolver
+-- as it is taken, and after an act that does not answer, the handler has its resolver
 taken : option_map seen (played setting (choices (own ∷ [])) (beginning_of setting)) ≡ Some (record { seqs = negsuc 0 ∷ []; handlers = negsuc 0 ∷ []; answered = false ∷ []; resolver = Some its_resolver; next = Some true })
 taken = refl
 
 named : option_map seen (played setting (choices (own ∷ own ∷ [])) (beginning_of setting)) ≡ Some (record { seqs = negsuc 0 ∷ []; handlers = negsuc 0 ∷ []; answered = false ∷ []; resolver = Some its_resolver; next = Some true })
 named = refl
 
--- behind the act that keeps it, it has none, and still runs
-kept_behind : option_map seen (played setting (choices (own ∷ own ∷ own ∷ [])) (beginning_of setting)) ≡ Some (record { seqs = negsuc 0 ∷ []; handlers = negsuc 0 ∷ []; answered = true ∷ []; resolver = None; next = Some true })
-kept_behind = refl
+-- after the act that keeps the resolver, the handler does not have it, and still runs
+kept_after : option_map seen (played setting (choices (own ∷ own ∷ own ∷ [])) (beginning_of setting)) ≡ Some (record { seqs = negsuc 0 ∷ []; handlers = negsuc 0 ∷ []; answered = true ∷ []; resolver = None; next = Some true })
+kept_after = refl
 
--- behind the close it returns, and nothing is left to do at a closed end
+-- after the close it returns, and nothing is left to do at a closed end
 returned : option_map seen (played setting (choices (own ∷ own ∷ own ∷ own ∷ own ∷ [])) (beginning_of setting)) ≡ Some (record { seqs = []; handlers = []; answered = []; resolver = None; next = None })
 returned = refl
 
--- the dispatches behind steps from the moment before the keep
+-- the dispatches after steps from the moment before the keep
 abbrev resolving : StackEntry → Bool
 resolving entry = entry.resolves
 

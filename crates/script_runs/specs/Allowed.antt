@@ -14,7 +14,7 @@ use Rattle.channel_model.specs.Returns.{AnsweredWait, dispatch_on_top, may_retur
 use Rattle.channel_model.specs.Sends.{may_act, may_send}
 use Rattle.channel_model.specs.Takes.{taken_next}
 
--- An event may be tried at an end. (Of a delivery no more is said than that the end is open.)
+-- An event may be tried at an end. (For a delivery, this only means that the end is open.)
 abbrev pub IsAllowed : Schema → End → Event → Type 0
 IsAllowed schema e (event.send route number vs name) = (row : MessageRow) × (request_row schema number ≡ Some row) × (may_send schema e row vs name ≡ true)
 IsAllowed schema e (event.answer by vs) = (row : MessageRow) × (answered_row schema e by ≡ Some row) × (may_answer schema e row vs ≡ true)

@@ -1,4 +1,4 @@
--- The dispatches of an end, and those that it has behind a step.
+-- The dispatches of an end, and those that it has after a step.
 use Rattle.std.specs.Prelude.{List, [], filter, drop, Option, Some, None, option_and_then}
 use Rattle.std.specs.List.{cons_option}
 use Rattle.std.specs.Option.{option_map_or}
@@ -34,8 +34,8 @@ abbrev pub item_dispatch : Schema → End → Item → Option StackEntry
 item_dispatch schema e (item.Message m sync level) = body_dispatch schema e m m.body
 item_dispatch schema e item.Broken = None
 
--- the dispatches behind an event: a take may add one, a return takes one off, a death all of them, and a resolver that is
--- used or kept is no longer there
+-- the dispatches after an event: a take may add one, a return removes one, a death removes all, and a resolver that is used
+-- or kept is gone
 abbrev pub dispatches_after : Schema → End → Event → List StackEntry
 dispatches_after schema e (event.answer (handled seq) vs) =
     option_map_or (λ cause. dispatches e.stack) (option_and_then (λ row. answer_refusal schema e row (handled seq) vs) (answered_row schema e (handled seq))) (released seq (dispatches e.stack))

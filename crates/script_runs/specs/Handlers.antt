@@ -1,4 +1,4 @@
--- The handlers that run at an end: by its stack, and by what the lines of its side tell.
+-- The handlers that run at an end: by its stack, and by the lines of its side.
 use Rattle.std.specs.Prelude.{◌≡◌, Bool, true, false, List, [], take, slice_get, Some}
 use Rattle.std.specs.List.{list_any}
 use Rattle.std.specs.Option.{option_map_or}
@@ -18,7 +18,7 @@ use Rattle.channel_model.specs.Numbers.{makes_promise, request_row}
 use Rattle.script_steps.specs.NextEvent.{block_for}
 use Rattle.script_steps.specs.Progress.{HandledRequest}
 
--- a dispatch is that of a request: of its number and its message
+-- a dispatch is that of a request: it has its number and its message
 abbrev pub IsDispatchOf : StackEntry → HandledRequest → Type 0
 IsDispatchOf entry request = ((head_of entry.frame).seq ≡ request.seq) × (entry.number ≡ request.number)
 
@@ -30,9 +30,10 @@ actions_for script side request = option_map_or (λ block. block.actions) (slice
 abbrev pub has_answered : Script → Side → HandledRequest → Bool
 has_answered script side request = list_any answers_handled (take request.acts (actions_for script side request))
 
--- What holds of a request whose handler runs: its values have the types of its message's parameters; what it made is what
--- its constructor built, and 0 where it is none; its actor is not null; and where its message has promises and none of the
--- handler's acts has answered, its resolver is there. A resolver that is there is found by the request's number.
+-- What holds of a request whose handler runs: its values have the types of its message's parameters. The actor that it made
+-- is the one that its constructor built, or 0 if it is not a constructor. Its actor is not null. If its message makes a
+-- promise and no act of the handler has answered, the dispatch has its resolver. A resolver in a dispatch is found by the
+-- request's number.
 pub record IsHandlerOf (schema : Schema) (script : Script) (side : Side) (e : End) (entry : StackEntry) (request : HandledRequest) : Type 0 where
   pub is_dispatch : IsDispatchOf entry request
   pub row : MessageRow

@@ -23,7 +23,7 @@ use Rattle.channel_model.specs.Ends.{End, Packet, StackEntry, end_of, link_to}
 use Rattle.channel_model.specs.Events.{Event}
 use Rattle.channel_model.specs.Events as event
 use Rattle.channel_model.specs.Fitting.{IsFitting, FitsPacket}
-use Rattle.channel_model.specs.Numbers.{other}
+use Rattle.ipdl_base.specs.Sides.{other}
 use Rattle.channel_model.specs.Outputs.{Output, is_open, is_dead_end}
 use Rattle.channel_model.specs.Refusals.{packet_refusal}
 use Rattle.channel_model.specs.Runs.{RunState, is_still}
@@ -42,19 +42,19 @@ use Rattle.script_runs.specs.Dispatches.{dispatches, dispatches_after}
 use Rattle.script_runs.specs.Handlers.{IsDispatchOf, has_answered, IsHandlerOf}
 use Rattle.script_runs.specs.Told.{choice_told}
 
--- Terms that fit a block stand for values of the types, where what they are seen with fits the block.
+-- Terms that fit a block represent values of the types, if their context fits the block.
 abbrev pub TermsStandForValues : Type 0
 TermsStandForValues =
     (schema : Schema) (block : BlockContext) (context : TermContext) (types : List ParamRow) (terms : Terms) → FitsContext schema block context → EachTermFits schema block types terms → HaveTypes schema types (values_of context terms)
 
--- What an action that answers its request, or keeps its resolver, comes behind: in a valid script no other does so before.
+-- In a valid script, no action before one that answers its request, or keeps its resolver, does so too.
 abbrev pub AnswersComeOnce : Type 0
 AnswersComeOnce =
     (schema : Schema) (script : Script) (side : Side) (request : HandledRequest) (action : Action)
     → IsValid schema script → handler_action script side request ≡ Some action → answers_handled action ≡ true → has_answered script side request ≡ false
 
--- The requests whose handlers run, as the lines of a side tell, are the dispatches of its end's stack, by number and
--- message, in order. At a dead end there is none.
+-- The requests whose handlers run, by the lines of a side, are the dispatches of its end's stack, by number and message, in
+-- order. A dead end has no such request.
 pub record AreDispatched (setting : Setting) (state : RunState) (side : Side) : Type 0 where
   pub handled : AllZip IsDispatchOf (dispatches (end_of side state.world).stack) (progress_of side state.lines).handled
   pub dead : is_dead_end (end_of side state.world).state ≡ true → (progress_of side state.lines).handled ≡ []
@@ -67,18 +67,18 @@ HandledAreDispatched =
 abbrev pub HasLimit : Setting → Type 0
 HasLimit setting = setting.limit < 268435456
 
--- And where the script is valid each of them stands as it was taken, with its resolver as long as its handler has not answered.
+-- If the script is valid, each of them is kept as it was taken, with its resolver as long as its handler has not answered.
 abbrev pub HandlersStand : Type 0
 HandlersStand =
     (setting : Setting) (choices : List Choice) (state : RunState) → IsSound setting.schema → IsValid setting.schema setting.script → HasLimit setting → played setting choices (beginning_of setting) ≡ Some state
     → (side : Side) → AllZip (IsHandlerOf setting.schema setting.script side (end_of side state.world)) (dispatches (end_of side state.world).stack) (progress_of side state.lines).handled
 
--- What a step makes of the dispatches of an end.
+-- The dispatches of an end after a step are those after its event.
 abbrev pub StepsChangeDispatches : Type 0
 StepsChangeDispatches = (schema : Schema) (e : End) (link : List Packet) (event : Event) (output : Output) → step schema e link event ≡ Some output → dispatches output.end.stack ≡ dispatches_after schema e event
 
--- In a run no two dispatches have the resolver of one request: where that of the innermost one is used or kept, the others
--- stay as they are.
+-- In a run no two dispatches have the resolver of one request: if the innermost resolver is used or kept, the other
+-- dispatches do not change.
 abbrev pub ResolversAreApart : Type 0
 ResolversAreApart =
     (setting : Setting) (choices : List Choice) (state : RunState) → IsSound setting.schema → played setting choices (beginning_of setting) ≡ Some state
@@ -94,8 +94,8 @@ abbrev pub CaseWorldsFit : Type 0
 CaseWorldsFit =
     (setting : Setting) (choices : List Choice) (state : RunState) → IsSound setting.schema → HasLimit setting → played setting choices (beginning_of setting) ≡ Some state → (side : Side) → FitsCase setting state side
 
--- In a run of a valid script what a side does next may be tried at its end, and is possible; and so is each delivery. So a
--- turn whose side is within the limit leads to where its choice does.
+-- In a run of a valid script, what a side does next may be tried at its end and is possible, and so is each delivery. So a
+-- turn whose side is within the limit leads to where its choice leads.
 pub record EventsArePossible (setting : Setting) (state : RunState) : Type 0 where
   pub allowed : (side : Side) (next : Event) → own_event setting side state ≡ Some next → IsAllowed setting.schema (end_of side state.world) next
   pub own : (side : Side) (next : Event) → own_event setting side state ≡ Some next → is_doable setting side state next ≡ true
@@ -106,7 +106,7 @@ abbrev pub ScriptEventsArePossible : Type 0
 ScriptEventsArePossible =
     (setting : Setting) (choices : List Choice) (state : RunState) → IsSound setting.schema → IsValid setting.schema setting.script → HasLimit setting → played setting choices (beginning_of setting) ≡ Some state → EventsArePossible setting state
 
--- Where a run of a script is quiet, nothing can happen but acts, and no end waits.
+-- If a run of a script is quiet, nothing but acts can happen, and no end waits.
 pub record IsAtRest (setting : Setting) (state : RunState) : Type 0 where
   pub still : is_still setting.schema state.world ≡ true
   pub answered : (side : Side) → AllByRecursion IsAnswered (frames_of (end_of side state.world))
@@ -120,13 +120,14 @@ pub record ObeysAllLaws (schema : Schema) (lines : List Line) : Type 0 where
   pub readable : IsReadable schema lines
   pub laws : (law : Law) → Holds law schema lines
 
--- So it is with the histories of a script.
+-- The histories of a script obey all laws.
 abbrev pub CaseHistoriesObeyAllLaws : Type 0
 CaseHistoriesObeyAllLaws = (setting : Setting) (lines : List Line) → IsSound setting.schema → IsCaseHistory setting lines → ObeysAllLaws setting.schema lines
 
--- How much a side has said and sent for its events: it has no more of these than the limit, and has sent and been delivered
--- no more requests; its lines, and what it has still to settle, are at most five for each event, and one more; and what was
--- delivered of it, with what waits on the link and in its outbox, is at most two packets for each.
+-- How many lines and packets a side has for its events. It has no more events than the limit, and has sent and been
+-- delivered no more requests than it has events. Its lines, with what it has still to settle, are at most five for each
+-- event and one more. What was delivered of it, with what waits on the link and in its outbox, is at most two packets for
+-- each event.
 pub record HasRoom (setting : Setting) (state : RunState) (side : Side) : Type 0 where
   pub events : (progress_of side state.lines).events ≤ setting.limit
   pub sent : (end_of side state.world).sent ≤ (progress_of side state.lines).events
@@ -137,6 +138,6 @@ pub record HasRoom (setting : Setting) (state : RunState) (side : Side) : Type 0
 abbrev pub CasesHaveRoom : Type 0
 CasesHaveRoom = (setting : Setting) (choices : List Choice) (state : RunState) → IsSound setting.schema → played setting choices (beginning_of setting) ≡ Some state → (side : Side) → HasRoom setting state side
 
--- The text of a line tells the choice that the line tells of: which side went on, and whether by a delivery.
+-- The text of a line shows the choice that the line records: which side made a step, and whether by a delivery.
 abbrev pub LineTextsTellChoices : Type 0
 LineTextsTellChoices = (schema : Schema) (before : List Line) (line : Line) → choice_told (line_text schema before line) ≡ choice_of line

@@ -1,6 +1,6 @@
-//! What every run of a valid script keeps: whose handlers run, that each event is possible, that a run at rest
-//! is still, that its lines obey the laws, and how much room they take (docs/scripts.md); and how far a run
-//! follows the lines of a text (docs/audit.md). No function that runs.
+//! What every run of a valid script keeps: which handlers run, that each event is possible, that a run
+//! at rest is still, that its lines obey the laws, and how much room they take (docs/scripts.md). Also
+//! how far a run follows the lines of a text (docs/audit.md). No function here runs.
 #![tactic(auto)]
 
 mod laws;

@@ -1,4 +1,4 @@
--- The choices of a history are read off its lines.
+-- The choices of a history can be read from its lines.
 use Rattle.std.proofs.Common.{◌≡◌, ℤ, Bool, true, false, if◌then◌else◌, List, [], ◌∷◌, ◌++◌, Option, Some, None, refl, sym, ap, subst, ◌∙◌, append_assoc}
 use Rattle.std.specs.Prelude.{is_some, not, ◌&&◌, option_map}
 use Rattle.std.specs.Option.{option_map_or}
@@ -26,14 +26,14 @@ use Rattle.channel_model.specs.Runs.{RunState, is_delivery, output_of, passed_by
 use Rattle.channel_model.specs.Sends.{frames_of}
 use Rattle.channel_model.specs.Takes.{taken_next}
 use Rattle.schedules.specs.declared.stop.Stop.{Stop}
-use Rattle.script_steps.specs.Choices.{Setting, Choice, beginning_of, own_event, may_deliver, event_by, is_doable, behind_event, played, choice_of, choices_of}
+use Rattle.script_steps.specs.Choices.{Setting, Choice, beginning_of, own_event, may_deliver, event_by, is_doable, following_event, played, choice_of, choices_of}
 use Rattle.script_steps.specs.Laws.{ChoicesAreRead, CaseWorldsAreOne}
 use Rattle.script_steps.specs.NextEvent.{event_of, handler_action, return_of, by_handler, by_taking, by_main, by_top, by_flushing, or_else, is_stopped, next_event, context_of}
 use Rattle.script_steps.specs.Progress.{Progress, HandledRequest, progress_of}
 use Rattle.script_steps.proofs.Playing.{Chooses, chooses, PlaysOn, plays_on}
 use Rattle.script_steps.proofs.StepLines.{Prints, step-prints, prints-choice}
 
--- No step of an end's own is a delivery
+-- No step that an end makes on its own is a delivery
 
 abbrev IsOwn : Option Event → Type 0
 IsOwn None = Unit {0}
@@ -115,11 +115,11 @@ delivers-by : (setting : Setting) (choice : Choice) (state : RunState) (x : Even
 delivers-by setting choice state x true is h = delivered (may_deliver choice.side state.world) x h ∙ sym is
 delivers-by setting choice state x false is h = subst IsOwn h (next-own setting.script setting.stop (end_of choice.side state.world) (progress_of choice.side state.lines)) ∙ sym is
 
--- a choice delivers where its event is a delivery
+-- a choice delivers if its event is a delivery
 pub event-delivers : (setting : Setting) (choice : Choice) (state : RunState) (x : Event) → event_by setting choice state ≡ Some x → is_delivery x ≡ choice.delivers
 event-delivers setting choice state x h = delivers-by setting choice state x choice.delivers refl h
 
--- What an event that is possible makes
+-- The result of an event that is possible
 
 pub record Happens (setting : Setting) (side : Side) (state : RunState) (event : Event) (next : RunState) : Type 0 where
   pub output : Output
@@ -149,7 +149,7 @@ sides-after : (side : Side) (event : Event) (output : Output) (world : World) �
 sides-after sides.Parent event output world is h = record { parent = is; child = h.child }
 sides-after sides.Child event output world is h = record { parent = h.parent; child = is }
 
--- What is known when choices have been played: what they did was printed behind what stood before.
+-- What is known when choices have been played: what they did was printed after what was there before.
 pub record HasPlayed (choice : Choice) (state next : RunState) : Type 0 where
   pub sides : HaveSides next.world
   pub choices : choices_of next.lines ≡ choices_of state.lines ++ choice ∷ []

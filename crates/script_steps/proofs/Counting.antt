@@ -1,4 +1,4 @@
--- Counts of events: each choice is one event more of its side, and none of the other.
+-- Counts of events: each choice is one more event of its side, and no event of the other.
 use Rattle.std.proofs.Common.{◌≡◌, ℕ, ℤ, suc, ◌+◌, ◌<◌, ◌≤◌, nat_lt, Bool, true, false, cond, if◌then◌else◌, List, [], ◌∷◌, ◌++◌, map, filter, fold, Option, Some, None, refl, sym, ap, subst, ◌∙◌, arith}
 use Rattle.std.specs.List.{AllByRecursion}
 use Rattle.std.proofs.lemmas.Bool.Decides.{Decides-ltb}
@@ -32,7 +32,7 @@ built-events : (b : Bool) (id : ℤ) (p : Progress) → (if b then with_handled 
 built-events true id p = refl
 built-events false id p = refl
 
--- the line of an event is one event more, and that of an effect none
+-- the line of an event is one more event, and that of an effect is not
 pub after-event : (p : Progress) (w : What) → is_effect w ≡ false → (after_line p w).events ≡ p.events + 1
 after-event p (what.Send a b c d) h = act-events p.handled (one_event p)
 after-event p (what.Call a b c d e) h = act-events p.handled (one_event p)
@@ -83,7 +83,7 @@ lines_of-append side xs ys =
     ap (map (λ (line : Line). line.what)) (filter-append (λ (line : Line). same_side line.side side) xs ys)
     ∙ map-append (λ (line : Line). line.what) (filter (λ (line : Line). same_side line.side side) xs) (filter (λ (line : Line). same_side line.side side) ys)
 
--- the progress behind more lines
+-- the progress after more lines
 pub progress-append : (side : Side) (xs ys : List Line) → progress_of side (xs ++ ys) ≡ after_lines (progress_of side xs) (lines_of side ys)
 progress-append side xs ys = ap (after_lines no_progress) (lines_of-append side xs ys) ∙ fold-append after_line no_progress (lines_of side xs) (lines_of side ys)
 
@@ -99,7 +99,7 @@ nothing : (b : Bool) → no-whats ≡ cond b no-whats no-whats
 nothing true = refl
 nothing false = refl
 
--- lines of one side are all of it, or none
+-- lines of one side are all of this side, or none of them is
 pub lines_of-own : (own side : Side) (ws : List What) → lines_of side (map (line_at own) ws) ≡ cond (same_side own side) ws []
 lines_of-own own side [] = nothing (same_side own side)
 lines_of-own own side (w ∷ ws) = one-line (same_side own side) w own side ws (lines_of-own own side ws)
@@ -108,7 +108,7 @@ counted-if : (b : Bool) (p : Progress) (w : What) (ws : List What) → is_effect
 counted-if true p w ws h k = after-effects (after_line p w) ws k ∙ after-event p w h
 counted-if false p w ws h k = omega arith
 
--- a step is one event more of its side
+-- a step is one more event of its side
 pub step-counted : (e : End) (happened : Event) (output : Output) (before : List Line) (side : Side) → Prints e happened output → (progress_of side (before ++ output.lines)).events ≡ (progress_of side before).events + (if same_side e.side side then 1 else 0)
 step-counted e happened output before side p =
     ap (λ (q : Progress). q.events) (progress-append side before output.lines)
@@ -116,7 +116,7 @@ step-counted e happened output before side p =
     ∙ ap (λ ws. (after_lines (progress_of side before) ws).events) (lines_of-own e.side side (p.first ∷ p.rest))
     ∙ counted-if (same_side e.side side) (progress_of side before) p.first p.rest p.is_event p.effects
 
--- Both sides behind a choice
+-- Both sides after a choice
 
 below : (n limit : ℕ) → nat_lt n limit ≡ true → n < limit
 below n limit h = (Decides-ltb n limit).0 h

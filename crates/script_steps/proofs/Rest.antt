@@ -6,11 +6,11 @@ use Rattle.schedules.specs.declared.turn.Turn.{Turn}
 use Rattle.script_steps.specs.Choices.{Setting, Choice, own_event, may_deliver, is_within}
 use Rattle.script_steps.specs.Laws.{RestIsQuiet, QuietDoesNothing}
 use Rattle.script_steps.specs.Turns.{TurnOutcome, leads, idles, exceeds, turn_choice, delivery_choice, led_to, outcome_by, outcome, RunEnding, at_rest, whole_turn, Rests, rests, goes_on, passes, stops, Picks, word_ends, turn_leads, turn_idles, turn_exceeds, is_quiet_at, is_quiet}
-use Rattle.channel_model.specs.Numbers.{other}
+use Rattle.ipdl_base.specs.Sides.{other}
 use Rattle.channel_model.specs.Events.{Event}
 use Rattle.channel_model.specs.Runs.{RunState}
 
--- what is known of a world where so many turns in a row still have to do nothing, this side's first
+-- what is known of a world where a given number of turns in a row must still do nothing, this side's first
 Known : Setting → Side → ℕ → RunState → Type 0
 Known setting side zero state = is_quiet setting state ≡ true
 Known setting side (suc zero) state = is_quiet_at setting state (other side) ≡ true
@@ -71,7 +71,7 @@ picks-quiet setting _ _ _ _ (turn_exceeds turn word from is) e = cc
 pub rest_is_quiet : RestIsQuiet
 rest_is_quiet setting word from last p = picks-quiet setting word from last at_rest p refl
 
--- And where nothing is left to do no turn does anything
+-- And if nothing is left to do, no turn does anything
 
 both-false : (b : Bool) → (not b && not true) ≡ true → ⊥
 both-false true h = cc

@@ -1,4 +1,4 @@
--- What a script shows under a word.
+-- What a script shows with a word.
 use Rattle.std.specs.Prelude.{ℕ, Bool, List, Option, option_map}
 use Rattle.ipdl_base.specs.declared.line.Line.{Line}
 use Rattle.schedules.specs.declared.turn.Turn.{Turn}

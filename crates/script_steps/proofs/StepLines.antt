@@ -1,4 +1,4 @@
--- What the lines of a step tell: one event of the end's side, which is a delivery or not, and effects.
+-- What the lines of a step show: one event of the end's side, which is a delivery or not, and effects.
 use Rattle.std.proofs.Common.{◌≡◌, ℤ, Bool, true, false, if◌then◌else◌, List, [], ◌∷◌, ◌++◌, map, Option, Some, None, refl, sym, ap, subst, ◌∙◌}
 use Rattle.std.specs.List.{AllByRecursion, cons_option}
 use Rattle.std.proofs.lemmas.Bool.{false≢true}
@@ -112,7 +112,7 @@ delivery-delivers (Parts.gets_reply m row a body found async) = refl
 delivery-delivers (Parts.drains packet is) = farewell-delivers packet
 delivery-delivers (Parts.passes_by m ordinary none) = unknown-delivers m.seq m.body
 
--- What a step prints: a line of its event, whose kind tells whether it is a delivery, and lines of effects.
+-- What a step prints: a line of its event, whose kind shows whether it is a delivery, and lines of effects.
 pub record Prints (e : End) (event : Event) (output : Output) : Type 0 where
   pub first : What
   pub rest : List What
@@ -159,7 +159,7 @@ step-prints schema e link (event.return vs) output is = own-event schema e link 
 step-prints schema e link event.resume output is = own-event schema e link event.resume output is refl
 step-prints schema e link event.flush output is = own-event schema e link event.flush output is refl
 
--- The choices that lines tell of
+-- The choices that lines record
 
 event-choice : (b : Bool) (choice : Choice) → b ≡ false → (if b then None else Some choice) ≡ Some choice
 event-choice true choice h = cc
@@ -174,7 +174,7 @@ effects-choose side [] h = refl
 effects-choose side (w ∷ ws) h =
     ap (λ o. cons_option o (choices_of (map (line_at side) ws))) (effect-choice (is_effect w) (record { side = side; delivers = is_delivery_line w }) h.0) ∙ effects-choose side ws h.1
 
--- a step tells of one choice
+-- a step records one choice
 pub prints-choice : (e : End) (happened : Event) (output : Output) → Prints e happened output → choices_of output.lines ≡ (record { side = e.side; delivers = is_delivery happened }) ∷ []
 prints-choice e happened output p =
     ap choices_of p.lines

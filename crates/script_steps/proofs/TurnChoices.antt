@@ -1,4 +1,4 @@
--- A turn that leads on is a choice of the run.
+-- A turn that leads to another state is a choice of the run.
 use Rattle.std.proofs.Common.{◌≡◌, Bool, true, false, not, ◌&&◌, if◌then◌else◌, Option, Some, None, is_some, refl, sym, ap, subst, ◌∙◌}
 use Rattle.std.specs.Prelude.{option_and_then}
 use Rattle.std.specs.Option.{option_map_or}
@@ -7,7 +7,7 @@ use Rattle.channel_model.specs.Events.{Event}
 use Rattle.channel_model.specs.Events as event
 use Rattle.channel_model.specs.Runs.{RunState}
 use Rattle.schedules.specs.declared.turn.Turn.{Turn}
-use Rattle.script_steps.specs.Choices.{Setting, Choice, own_event, may_deliver, is_within, event_by, behind_event, is_doable, chosen}
+use Rattle.script_steps.specs.Choices.{Setting, Choice, own_event, may_deliver, is_within, event_by, following_event, is_doable, chosen}
 use Rattle.script_steps.specs.Laws.{TurnIsChoice, TurnsAreChoices}
 use Rattle.script_steps.specs.Turns.{TurnOutcome, leads, idles, exceeds, delivery_choice, turn_choice, led_to, outcome_by, outcome}
 
@@ -38,7 +38,7 @@ turn-chosen setting turn state choice true is h =
     subst (HasChosen setting turn.side state) same (own-chosen setting turn.side state (own_event setting turn.side state) refl (own-true turn.only_deliver (is_some (own_event setting turn.side state)) is))
 turn-chosen setting turn state choice false is h = delivery-chosen setting turn.side state (may_deliver turn.side state.world) choice refl h
 
--- a turn that leads on has chosen, its side is below the limit, and it leads where its choice does
+-- a turn that leads to another state has chosen, its side is below the limit, and it leads where its choice does
 record Leads (setting : Setting) (side : Side) (state next : RunState) (found : Option Choice) : Type 0 where
   choice : Choice
   chooses : found ≡ Some choice
@@ -56,10 +56,10 @@ leads-by setting side state next (Some choice) h = leads-within setting side sta
 plays-so : (setting : Setting) (choice : Choice) (state next : RunState) (event : Event) → event_by setting choice state ≡ Some event → led_to setting choice state ≡ next → is_within setting choice.side state ≡ true → is_doable setting choice.side state event ≡ true
     → chosen setting choice state ≡ Some next
 plays-so setting choice state next event does leads_to within doable =
-    ap (λ (b : Bool). if b then option_and_then (λ event. if is_doable setting choice.side state event then Some (behind_event setting choice.side state event) else None) (event_by setting choice state) else None) within
-    ∙ ap (option_and_then (λ event. if is_doable setting choice.side state event then Some (behind_event setting choice.side state event) else None)) does
-    ∙ ap (λ (b : Bool). if b then Some (behind_event setting choice.side state event) else None) doable
-    ∙ ap Some (sym (ap (λ found. option_map_or (behind_event setting choice.side state) found state) does) ∙ leads_to)
+    ap (λ (b : Bool). if b then option_and_then (λ event. if is_doable setting choice.side state event then Some (following_event setting choice.side state event) else None) (event_by setting choice state) else None) within
+    ∙ ap (option_and_then (λ event. if is_doable setting choice.side state event then Some (following_event setting choice.side state event) else None)) does
+    ∙ ap (λ (b : Bool). if b then Some (following_event setting choice.side state event) else None) doable
+    ∙ ap Some (sym (ap (λ found. option_map_or (following_event setting choice.side state) found state) does) ∙ leads_to)
 
 pub turns_are_choices : TurnsAreChoices
 turns_are_choices setting turn state next h =

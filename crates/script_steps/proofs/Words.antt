@@ -1,4 +1,4 @@
--- A word has one result, which is what the functions give.
+-- A word has one result, which is that of the functions.
 use Rattle.std.proofs.Common.{◌≡◌, ℕ, zero, suc, List, [], ◌∷◌, Option, Some, refl, sym, subst, ◌∙◌}
 use Rattle.ipdl_base.specs.declared.kinds.Side.{Side}
 use Rattle.ipdl_base.specs.declared.kinds.Side.TheVariants as sides
@@ -6,7 +6,7 @@ use Rattle.schedules.specs.declared.turn.Turn.{Turn}
 use Rattle.script_steps.specs.Choices.{Setting}
 use Rattle.script_steps.specs.Laws.{WordsHaveOneResult, FunctionsPick}
 use Rattle.script_steps.specs.Turns.{TurnOutcome, leads, idles, exceeds, outcome, RunEnding, at_rest, at_limit, whole_turn, Rests, rests, goes_on, passes, stops, Picks, word_ends, turn_leads, turn_idles, turn_exceeds, RunEnd, rested, picked}
-use Rattle.channel_model.specs.Numbers.{other}
+use Rattle.ipdl_base.specs.Sides.{other}
 use Rattle.channel_model.specs.Runs.{RunState}
 
 same_next : (x y : RunState) → leads x ≡ leads y → x ≡ y

@@ -1,4 +1,4 @@
--- Worked scripts: under its word each gives exactly these lines, ends so, and leaves nothing to do or something.
+-- Worked scripts: with its word, each gives exactly these lines and this ending, and leaves nothing or something to do.
 use Rattle.std.specs.Prelude.{◌≡◌, ℕ, ℤ, pos, negsuc, Bool, true, false, List, [], ◌∷◌, Some, None, codes, replicate, refl}
 use Rattle.std.proofs.Common.{ap}
 use Rattle.std.specs.Str.{is_utf8, chars}

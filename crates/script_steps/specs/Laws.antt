@@ -10,7 +10,7 @@ use Rattle.script_steps.specs.Choices.{Setting, Choice, beginning_of, event_by, 
 use Rattle.script_steps.specs.Progress.{progress_of}
 use Rattle.script_steps.specs.Turns.{RunEnding, at_rest, RunEnd, leads, idles, outcome, turn_choice, Picks, picked, is_quiet}
 
--- The choices that make a history are those that its lines tell of.
+-- The choices that make a history are those that its lines record.
 abbrev pub ChoicesAreRead : Type 0
 ChoicesAreRead = (setting : Setting) (choices : List Choice) (state : RunState) → played setting choices (beginning_of setting) ≡ Some state → choices_of state.lines ≡ choices
 
@@ -20,7 +20,7 @@ CaseWorldsAreOne =
     (setting : Setting) (one other : List Choice) (state next : RunState) → played setting one (beginning_of setting) ≡ Some state → played setting other (beginning_of setting) ≡ Some next
     → state.lines ≡ next.lines → (one ≡ other) × (state ≡ next)
 
--- What choices make is a run: a history of a script is a legal history.
+-- Choices make a run: a history of a script is a legal history.
 pub record IsRunOf (setting : Setting) (state : RunState) : Type 0 where
   pub moves : List Move
   pub runs : run setting.schema moves (opening setting.script.top) ≡ state
@@ -28,8 +28,8 @@ pub record IsRunOf (setting : Setting) (state : RunState) : Type 0 where
 abbrev pub ChoicesAreRuns : Type 0
 ChoicesAreRuns = (setting : Setting) (choices : List Choice) (state : RunState) → played setting choices (beginning_of setting) ≡ Some state → IsRunOf setting state
 
--- What the lines of a history tell of a side: it has no more events than the limit, and its end has sent no more requests,
--- and been delivered no more, than the side has events.
+-- What the lines of a history show of a side: it has no more events than the limit. Its end has sent no more requests, and
+-- been delivered no more, than the side has events.
 pub record IsCountedBy (setting : Setting) (state : RunState) (side : Side) : Type 0 where
   pub limit : (progress_of side state.lines).events ≤ setting.limit
   pub sent : (end_of side state.world).sent ≤ (progress_of side state.lines).events
@@ -38,18 +38,18 @@ pub record IsCountedBy (setting : Setting) (state : RunState) (side : Side) : Ty
 abbrev pub ChoicesAreCounted : Type 0
 ChoicesAreCounted = (setting : Setting) (choices : List Choice) (state : RunState) → played setting choices (beginning_of setting) ≡ Some state → (side : Side) → IsCountedBy setting state side
 
--- Choices behind others go on from where these have led, and add lines behind theirs.
+-- Further choices continue from where the first ones have led, and add lines after theirs.
 pub record GoesOn (setting : Setting) (first more : List Choice) (from last : RunState) : Type 0 where
   pub between : RunState
   pub before : played setting first from ≡ Some between
   pub after : played setting more between ≡ Some last
   pub lines : List Line
-  pub behind : last.lines ≡ between.lines ++ lines
+  pub following : last.lines ≡ between.lines ++ lines
 
 abbrev pub ChoicesGrow : Type 0
 ChoicesGrow = (setting : Setting) (first more : List Choice) (from last : RunState) → played setting (first ++ more) from ≡ Some last → GoesOn setting first more from last
 
--- A turn that leads on does what it chooses, and that is a choice of the run, if it is possible.
+-- A turn that leads to another state does what it chooses, and that is a choice of the run, if it is possible.
 pub record TurnIsChoice (setting : Setting) (turn : Turn) (state next : RunState) : Type 0 where
   pub choice : Choice
   pub chooses : turn_choice setting turn state ≡ Some choice
@@ -66,7 +66,7 @@ abbrev pub WordsHaveOneResult : Type 0
 WordsHaveOneResult =
     (setting : Setting) (word : List Turn) (from one other : RunState) (ending end : RunEnding) → Picks setting word from one ending → Picks setting word from other end → (one ≡ other) × (ending ≡ end)
 
--- What the functions give is what the word does.
+-- The result of the functions is what the word does.
 abbrev pub FunctionsPick : Type 0
 FunctionsPick = (setting : Setting) (fuel : ℕ) (word : List Turn) (from : RunState) (end : RunEnd) → picked setting fuel word from ≡ Some end → Picks setting word from end.state end.ending
 
@@ -74,6 +74,6 @@ FunctionsPick = (setting : Setting) (fuel : ℕ) (word : List Turn) (from : RunS
 abbrev pub RestIsQuiet : Type 0
 RestIsQuiet = (setting : Setting) (word : List Turn) (from last : RunState) → Picks setting word from last at_rest → is_quiet setting last ≡ true
 
--- Where nothing is left to do no turn does anything.
+-- If nothing is left to do, no turn does anything.
 abbrev pub QuietDoesNothing : Type 0
 QuietDoesNothing = (setting : Setting) (turn : Turn) (state : RunState) → is_quiet setting state ≡ true → outcome setting turn state ≡ idles

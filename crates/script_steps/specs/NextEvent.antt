@@ -24,7 +24,7 @@ use Rattle.channel_model.specs.Takes.{taken_next}
 use Rattle.schedules.specs.declared.stop.Stop.{Stop}
 use Rattle.script_steps.specs.Progress.{HandledRequest, Progress}
 
--- the actor that a name holds
+-- the actor that a name is bound to
 abbrev pub actor_in : NameContent → Option ℤ
 actor_in (actor id) = Some id
 actor_in (resolver r) = None
@@ -37,12 +37,12 @@ abbrev pub route_on_top : List StackEntry → ℤ
 route_on_top [] = no_id
 route_on_top (entry ∷ below) = entry.route
 
--- what terms stand for in main, and in a handler
+-- the context of terms in main, or in a handler
 abbrev pub context_of : End → List HandledRequest → TermContext
 context_of e [] = record { this = no_id; made = no_id; given = values.Nothing; held = actor_named e }
 context_of e (request ∷ below) = record { this = route_on_top e.stack; made = request.made; given = request.given; held = actor_named e }
 
--- the event that an action is, in a handler of the request of a number
+-- the event of an action, in a handler of the request with this number
 abbrev pub event_of : TermContext → ℤ → Action → Event
 event_of context seq (action.Send who number terms) = event.send (id_of context who) number (values_of context terms) None
 event_of context seq (action.New name who number terms) = event.send (id_of context who) number (values_of context terms) (Some name)
@@ -55,7 +55,7 @@ event_of context seq (action.RejectNamed name number) = event.answer (kept name 
 event_of context seq action.Close = event.close
 event_of context seq action.Die = event.die
 
--- the block that serves a request: that of its count, and the last one for all requests behind
+-- the block that serves a request: each block serves one request, and the last block all further requests
 abbrev pub block_for : Script → Side → HandledRequest → ℕ
 block_for script side request = min request.block (length (blocks_for script side (Some request.number)) - 1)
 
@@ -67,14 +67,13 @@ handler_action script side request = action_at script side (point.Handler reques
 abbrev pub return_of : Script → Side → TermContext → HandledRequest → Event
 return_of script side context request = event.return (option_map (values_of context) (reply_at script side request.number (block_for script side request)))
 
--- The innermost handler does its next action, or returns where none is left. (That no handler runs under a dispatch does
--- not happen in a run.)
+-- The innermost handler does its next action, or returns if no action is left. (In a run, a dispatch always has a handler.)
 abbrev pub by_handler : Script → End → List HandledRequest → Event
 by_handler script e [] = event.return None
 by_handler script e (request ∷ below) =
     option_map_or (event_of (context_of e (request ∷ below)) request.seq) (handler_action script e.side request) (return_of script e.side (context_of e (request ∷ below)) request)
 
--- an end takes where something may be taken
+-- an end takes, if something may be taken
 abbrev pub by_taking : End → Option Event
 by_taking e = if is_some (taken_next e) then Some event.take else None
 
@@ -82,12 +81,12 @@ by_taking e = if is_some (taken_next e) then Some event.take else None
 abbrev pub by_main : Script → End → Progress → Option Event
 by_main script e progress = if is_open e.state then option_map (event_of (context_of e []) no_id) (action_at script e.side (point.Main progress.main)) else None
 
--- the first of two, where it is there
+-- the first of two options, or else the second
 abbrev pub or_else : {A : Type 0} → Option A → Option A → Option A
 or_else (Some first) second = Some first
 or_else None second = second
 
--- what the frame on top asks for
+-- what the frame on top requires
 abbrev pub by_top : Script → End → Progress → StackTop → Option Event
 by_top script e progress top.Empty = or_else (by_taking e) (by_main script e progress)
 by_top script e progress (top.Dispatch head) = Some (by_handler script e progress.handled)
@@ -98,12 +97,12 @@ by_top script e progress (top.Answered head) = Some event.resume
 abbrev pub by_flushing : End → Option Event
 by_flushing e = if may_flush e then Some event.flush else None
 
--- whether a stop names the side, and it has as many events
+-- whether a stop names the side, and the side has that number of events
 abbrev pub is_stopped : Option Stop → Side → Progress → Bool
 is_stopped stop side progress = option_map_or (λ s. same_side s.side side && nat_le s.after progress.events) stop false
 
--- What an end does next, by what it is and by how far its side has come: nothing at a dead end; a death where it is
--- stopped; else what its top frame asks for; and else a flush.
+-- What an end does next, by its state and the progress of its side: nothing if it is dead; a death if it is stopped; else
+-- what its top frame requires; or else a flush.
 abbrev pub next_event : Script → Option Stop → End → Progress → Option Event
 next_event script stop e progress =
     if is_dead_end e.state then None else

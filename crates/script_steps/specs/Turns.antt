@@ -3,10 +3,10 @@ use Rattle.std.specs.Prelude.{◌≡◌, ℕ, zero, suc, Bool, true, false, not,
 use Rattle.std.specs.Option.{option_map_or}
 use Rattle.ipdl_base.specs.declared.kinds.Side.{Side}
 use Rattle.ipdl_base.specs.declared.kinds.Side.TheVariants as sides
-use Rattle.channel_model.specs.Numbers.{other}
+use Rattle.ipdl_base.specs.Sides.{other}
 use Rattle.channel_model.specs.Runs.{RunState}
 use Rattle.schedules.specs.declared.turn.Turn.{Turn}
-use Rattle.script_steps.specs.Choices.{Setting, Choice, own_event, may_deliver, is_within, event_by, behind_event}
+use Rattle.script_steps.specs.Choices.{Setting, Choice, own_event, may_deliver, is_within, event_by, following_event}
 
 -- What a turn does: it leads to another state of the run, or there is nothing to do, or the side is at the limit.
 pub data TurnOutcome : Type 0 where
@@ -14,18 +14,18 @@ pub data TurnOutcome : Type 0 where
   idles : TurnOutcome
   exceeds : TurnOutcome
 
--- a delivery, where one is possible
+-- a delivery, if one is possible
 abbrev pub delivery_choice : Side → RunState → Option Choice
 delivery_choice side state = if may_deliver side state.world then Some (record { side = side; delivers = true }) else None
 
--- what a turn chooses: the side's own step, if it has one and the turn is not for deliveries alone, and else a delivery
+-- what a turn chooses: the side's own step, if it has one and the turn is not for deliveries only, or else a delivery
 abbrev pub turn_choice : Setting → Turn → RunState → Option Choice
 turn_choice setting turn state =
     if not turn.only_deliver && is_some (own_event setting turn.side state) then Some (record { side = turn.side; delivers = false }) else delivery_choice turn.side state
 
--- the run behind a choice's event
+-- the run after the event of a choice
 abbrev pub led_to : Setting → Choice → RunState → RunState
-led_to setting choice state = option_map_or (behind_event setting choice.side state) (event_by setting choice state) state
+led_to setting choice state = option_map_or (following_event setting choice.side state) (event_by setting choice state) state
 
 abbrev pub outcome_by : Setting → Side → RunState → Option Choice → TurnOutcome
 outcome_by setting side state None = idles
@@ -44,22 +44,22 @@ pub data RunEnding : Type 0 where
 abbrev pub whole_turn : Side → Turn
 whole_turn side = record { side = side; only_deliver = false }
 
--- What sides do in turn, this one first, where so many turns in a row have still to do nothing until the run rests.
+-- What sides do in turn, this one first. The number is how many turns in a row must still do nothing before the run rests.
 pub data Rests (setting : Setting) : Side → ℕ → RunState → RunState → RunEnding → Type 0 where
   rests : (side : Side) (state : RunState) → Rests setting side 0 state state at_rest
   goes_on : (side : Side) (idle : ℕ) (state next last : RunState) (ending : RunEnding) → outcome setting (whole_turn side) state ≡ leads next → Rests setting (other side) 2 next last ending → Rests setting side (suc idle) state last ending
   passes : (side : Side) (idle : ℕ) (state last : RunState) (ending : RunEnding) → outcome setting (whole_turn side) state ≡ idles → Rests setting (other side) idle state last ending → Rests setting side (suc idle) state last ending
   stops : (side : Side) (idle : ℕ) (state : RunState) → outcome setting (whole_turn side) state ≡ exceeds → Rests setting side (suc idle) state state (at_limit side)
 
--- What the turns of a word do, one after another, and behind the word both sides in turn, the parent first, until two
--- turns in a row do nothing.
+-- What the turns of a word do, one after another. After the word both sides take turns, the parent first, until two turns
+-- in a row do nothing.
 pub data Picks (setting : Setting) : List Turn → RunState → RunState → RunEnding → Type 0 where
   word_ends : (state last : RunState) (ending : RunEnding) → Rests setting sides.Parent 2 state last ending → Picks setting [] state last ending
   turn_leads : (turn : Turn) (word : List Turn) (state next last : RunState) (ending : RunEnding) → outcome setting turn state ≡ leads next → Picks setting word next last ending → Picks setting (turn ∷ word) state last ending
   turn_idles : (turn : Turn) (word : List Turn) (state last : RunState) (ending : RunEnding) → outcome setting turn state ≡ idles → Picks setting word state last ending → Picks setting (turn ∷ word) state last ending
   turn_exceeds : (turn : Turn) (word : List Turn) (state : RunState) → outcome setting turn state ≡ exceeds → Picks setting (turn ∷ word) state state (at_limit turn.side)
 
--- The same as functions, for worked cases, where so many turns behind the word are enough.
+-- The same as functions, for worked cases, where a given number of turns after the word is enough.
 
 -- a state of a run, and how it ended there
 pub record RunEnd : Type 0 where

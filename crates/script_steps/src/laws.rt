@@ -1,6 +1,8 @@
+//! The laws of what a script does next.
+
 ghost use Rattle.script_steps.specs.Laws.{CaseWorldsAreOne, ChoicesAreCounted, ChoicesAreRead, ChoicesAreRuns, ChoicesGrow, FunctionsPick, QuietDoesNothing, RestIsQuiet, TurnsAreChoices, WordsHaveOneResult};
 
-/// The law of worlds: the lines of a script's history lead to one (docs/scripts.md).
+/// The law of worlds: the lines of a script's history lead to one world (docs/scripts.md).
 pub fn case_worlds_are_one()
     ensures { CaseWorldsAreOne }
 {}
@@ -10,7 +12,7 @@ pub fn choices_are_counted()
     ensures { ChoicesAreCounted }
 {}
 
-/// The law of choices: those that make a history are read off its lines.
+/// The law of choices: the choices that make a history can be read from its lines.
 pub fn choices_are_read()
     ensures { ChoicesAreRead }
 {}
@@ -20,17 +22,17 @@ pub fn choices_are_runs()
     ensures { ChoicesAreRuns }
 {}
 
-/// The law of growth: choices behind others add lines behind theirs.
+/// The law of growth: further choices add lines after those of the first.
 pub fn choices_grow()
     ensures { ChoicesGrow }
 {}
 
-/// The law of the functions: what they give is what the word does.
+/// The law of the functions: their result is what the word does.
 pub fn functions_pick()
     ensures { FunctionsPick }
 {}
 
-/// The law of quiet: where nothing is left to do no turn does anything.
+/// The law of quiet: if nothing is left to do, no turn does anything.
 pub fn quiet_does_nothing()
     ensures { QuietDoesNothing }
 {}
@@ -40,7 +42,7 @@ pub fn rest_is_quiet()
     ensures { RestIsQuiet }
 {}
 
-/// The law of turns: one that leads on does a choice of the run, where that is possible.
+/// The law of turns: a turn that leads to another state makes a choice of the run, if that is possible.
 pub fn turns_are_choices()
     ensures { TurnsAreChoices }
 {}

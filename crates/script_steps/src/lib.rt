@@ -1,5 +1,5 @@
 //! What the two ends of a channel do by a handler script: what each does next, the histories that a
-//! script has, and turns of sides (docs/scripts.md). Definitions and laws: no function runs here.
+//! script has, and turns of sides (docs/scripts.md). Definitions and laws: no function here runs.
 #![tactic(auto)]
 
 mod laws;

@@ -1,3 +1,5 @@
+//! The calls of a script: its actions, its blocks and its replies.
+
 ghost use Rattle.ipdl_base.specs.Sound.{IsSound};
 
 use super::given::{note, number_of, script, the_schema};
@@ -50,7 +52,7 @@ reject
 end
 ";
 
-/// Appends the message of this number.
+/// Appends the message with this number.
 fn push_message(schema: &Schema, number: u32, out: &mut String) -> Result<(), AllocError>
     requires { IsSound schema.now }
 {
@@ -76,7 +78,7 @@ fn push_call(
     out.push(')')
 }
 
-/// Appends who a message is sent to, and the message with values.
+/// Appends the receiver of a message, and the message with its values.
 fn push_sent(
     schema: &Schema,
     who: &Who,
@@ -140,7 +142,7 @@ fn push_action(schema: &Schema, action: &Action, out: &mut String) -> Result<(),
     }
 }
 
-/// The number of a message of `PT`.
+/// Returns the number of a message of `PT`.
 fn number_in_top(schema: &Schema, name: &str) -> Result<u32, Fail> {
     for protocol in schema.protocols.as_slice() {
         if protocol.name.as_slice() == b"PT".as_slice() {
@@ -154,8 +156,8 @@ fn number_in_top(schema: &Schema, name: &str) -> Result<u32, Fail> {
     Err("no message".into())
 }
 
-/// The actions of `SCRIPT`: the side, the message of `PT` that is handled or nothing for a main, the
-/// index of the block and of the action.
+/// The actions of `SCRIPT`: the side, the message of `PT` that is handled (empty for a main), the
+/// indices of the block and of the action, and the action as text.
 const ACTIONS: &[(Side, &str, u32, u32, &str)] = &[
     (Side::Parent, "", 0, 0, "send top PT.Tell(-5,)"),
     (Side::Parent, "", 0, 1, "new page top PT.PK(7,)"),
@@ -228,7 +230,7 @@ const ACTIONS: &[(Side, &str, u32, u32, &str)] = &[
     (Side::Child, "Ping", 0, 1, ""),
 ];
 
-/// The point of an action in a main or in the handler of a message of `PT`.
+/// Returns the point of an action in a main or in the handler of a message of `PT`.
 fn point_of(schema: &Schema, handled: &str, block: u32, index: u32) -> Result<Point, Fail> {
     if handled.is_empty() {
         return Ok(Point::Main(index));
@@ -241,7 +243,7 @@ fn point_of(schema: &Schema, handled: &str, block: u32, index: u32) -> Result<Po
     })
 }
 
-/// The action at a point, as it is shown; nothing where there is none.
+/// Returns the action at a point as text; empty if there is no action.
 fn action_text(
     alloc: Global,
     schema: &Schema,
@@ -258,7 +260,7 @@ fn action_text(
     Ok(shown)
 }
 
-/// Notes which of these actions are others.
+/// Notes which of these actions differ.
 fn note_actions(
     alloc: Global,
     schema: &Schema,
@@ -275,7 +277,7 @@ fn note_actions(
     Ok(())
 }
 
-/// The blocks of `SCRIPT` that a side has for a message of `PT`.
+/// The number of blocks of `SCRIPT` that a side has for a message of `PT`.
 const BLOCKS: &[(Side, &str, u32)] = &[
     (Side::Parent, "Get", 2),
     (Side::Parent, "Look", 2),
@@ -286,7 +288,7 @@ const BLOCKS: &[(Side, &str, u32)] = &[
     (Side::Child, "Ping", 1),
 ];
 
-/// The values that a block of `SCRIPT` returns.
+/// The values that a block of `SCRIPT` returns, as text.
 const REPLIES: &[(Side, &str, u32, &str)] = &[
     (Side::Parent, "Look", 0, "false,text found,"),
     (Side::Parent, "Look", 1, "nothing"),
@@ -295,7 +297,7 @@ const REPLIES: &[(Side, &str, u32, &str)] = &[
     (Side::Child, "Look", 0, "nothing"),
 ];
 
-/// The values that a block returns.
+/// Returns the values that a block returns, as text.
 fn reply_text(
     alloc: Global,
     script: &Script,
@@ -311,7 +313,7 @@ fn reply_text(
     Ok(shown)
 }
 
-/// Notes which of these replies are others.
+/// Notes which of these replies differ.
 fn note_replies(
     alloc: Global,
     schema: &Schema,
@@ -326,7 +328,7 @@ fn note_replies(
     Ok(())
 }
 
-/// Notes which of these counts of blocks are others.
+/// Notes which of these counts of blocks differ.
 fn note_blocks(schema: &Schema, script: &Script, wrong: &mut String) -> Result<(), Fail> {
     if script.blocks.len() > 0xffff_ffff {
         return Err("too many blocks".into());
@@ -340,7 +342,7 @@ fn note_blocks(schema: &Schema, script: &Script, wrong: &mut String) -> Result<(
     Ok(())
 }
 
-/// Which actions, blocks and replies of `SCRIPT` are others, and the numbers of its top.
+/// Returns which actions, blocks and replies of `SCRIPT` differ, and the numbers of its top.
 fn wrong_calls(alloc: Global) -> Result<String, Fail> {
     let schema = the_schema(alloc)?;
     let script = script(alloc, &schema, SCRIPT.as_bytes())?;

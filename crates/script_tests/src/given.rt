@@ -1,14 +1,17 @@
+//! The program of the tests, and what a text breaks.
+
 ghost use Rattle.std.specs.Prelude.{IfOk};
 ghost use Rattle.ipdl_base.specs.Sound.{IsSound};
 
 use handler_script::{Script, ScriptFault, read_script};
-use ipdl_base::{Finding, Findings, MemoryFiles, Schema, short_name};
+use ipdl_base::{Finding, Findings, Schema, short_name};
+use memory_files::MemoryFiles;
 use schema_of_text::schema_of;
 use std::alloc::{AllocError, Global};
 use std::test::Fail;
 
-/// The files of the one program, in which the tables of rules have their messages, each with its name
-/// behind `@ `, and then its text. `PT` is its top.
+/// The files of the program whose messages the tables of rules use. Each begins with `@ ` and its name,
+/// followed by its text. `PT` is the top.
 const FILES: &str = "@ PT.ipdl
 include protocol PD;
 include protocol PK;
@@ -117,13 +120,13 @@ both:
 }
 ";
 
-/// A file with this name and text.
+/// Returns a file with this name and text.
 fn file(alloc: Global, name: &str, text: &str) -> Result<(String, Vec<u8>), AllocError> {
     let name = String::from_str(alloc, name)?;
     Ok((name, Vec::from_slice(alloc, text.as_bytes())?))
 }
 
-/// The files that a text spells, in memory.
+/// Returns the files that a text spells, in memory.
 fn files(alloc: Global, texts: &str) -> Result<MemoryFiles, AllocError> {
     let mut files = Vec::new(alloc);
     for piece in texts.split("@ ") {
@@ -134,7 +137,7 @@ fn files(alloc: Global, texts: &str) -> Result<MemoryFiles, AllocError> {
     Ok(MemoryFiles::new(files, Vec::new(alloc)))
 }
 
-/// The schema of a top's file, which is among these, and of those that it includes.
+/// Returns the schema of the file of a top, which is one of these files, and of those that it includes.
 pub fn schema_of_top(alloc: Global, texts: &str, top: &str) -> Result<Schema, Fail>
     ensures { IfOk result IsSound }
 {
@@ -142,14 +145,14 @@ pub fn schema_of_top(alloc: Global, texts: &str, top: &str) -> Result<Schema, Fa
     schema_of(alloc, files(alloc, texts)?, word.as_str())
 }
 
-/// The schema of the one program.
+/// Returns the schema of the program of the tests.
 pub fn the_schema(alloc: Global) -> Result<Schema, Fail>
     ensures { IfOk result IsSound }
 {
     schema_of_top(alloc, FILES, "PT")
 }
 
-/// The number of the protocol with this short name.
+/// Returns the number of the protocol with this short name.
 pub fn number_of(schema: &Schema, name: &str) -> Result<u32, Fail> {
     let mut number = 0u32;
     for protocol in schema.protocols.as_slice() {
@@ -161,7 +164,7 @@ pub fn number_of(schema: &Schema, name: &str) -> Result<u32, Fail> {
     Err("no such protocol".into())
 }
 
-/// What a text is read as, where the top has this short name.
+/// Returns the result of reading a text as a script whose top has this short name.
 pub fn read(
     alloc: Global,
     schema: &Schema,
@@ -177,7 +180,7 @@ pub fn read(
     Ok(read_script(alloc, text, schema, top))
 }
 
-/// The script of a text that breaks no rule.
+/// Returns the script of a text that breaks no rule.
 pub fn script(alloc: Global, schema: &Schema, text: &[u8]) -> Result<Script, Fail>
     requires { IsSound schema.now }
 {
@@ -192,7 +195,7 @@ fn push_finding(finding: &Finding, out: &mut String) -> Result<(), AllocError> {
     write!(out, "{file}:{line}:{column} {letter}{number} ")
 }
 
-/// Findings, each as `FILE:LINE:COLUMN RULE` and a blank.
+/// Returns findings as text, each as `FILE:LINE:COLUMN RULE` and a blank.
 fn show(alloc: Global, findings: &Findings) -> Result<String, AllocError> {
     let mut shown = String::new(alloc);
     for finding in findings.as_slice() {
@@ -204,7 +207,7 @@ fn show(alloc: Global, findings: &Findings) -> Result<String, AllocError> {
     Ok(shown)
 }
 
-/// What a text breaks, as `show` has it; nothing where it has a script.
+/// Returns the findings of a text in the form of `show`; empty if it has a script.
 pub fn broken(alloc: Global, schema: &Schema, top: &str, text: &[u8]) -> Result<String, Fail>
     requires { IsSound schema.now }
 {
@@ -215,7 +218,7 @@ pub fn broken(alloc: Global, schema: &Schema, top: &str, text: &[u8]) -> Result<
     }
 }
 
-/// Notes what came out of a row, where it is not what the row wants.
+/// Notes what was found for a row if it is not what the row expects.
 pub fn note(row: &str, found: &str, wanted: &str, wrong: &mut String) -> Result<(), AllocError> {
     if found == wanted {
         Ok(())

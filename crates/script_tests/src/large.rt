@@ -1,3 +1,5 @@
+//! Texts as deep and as large as they can be.
+
 ghost use Rattle.std.specs.Prelude.{IfOk};
 ghost use Rattle.ipdl_base.specs.Sound.{IsSound};
 
@@ -8,7 +10,7 @@ use ipdl_base::{Findings, Rule, Schema, Side};
 use std::alloc::Global;
 use std::test::Fail;
 
-/// Values as deep as a line can hold them: those of union and array fit.
+/// Values as deep as a line allows: those of a union and an array fit.
 const DEEP: &[(&str, &str, &str, u32, &str)] = &[
     ("[", "", "]", 8000, "0:2:1 K5 "),
     ("{", "", "}", 8000, "0:2:1 K5 "),
@@ -23,10 +25,10 @@ const DEEP: &[(&str, &str, &str, u32, &str)] = &[
     ("[", "", "}", 8000, "0:2:1 K1 "),
 ];
 
-/// Lines of so many brackets.
+/// Lines with this number of brackets.
 const BRACKETS: &[(u32, &str)] = &[(16_384, "0:1:1 K1 "), (16_385, "0:1:1 K9 ")];
 
-/// What pieces, with others as often behind them, break.
+/// Returns what a text of repeated pieces breaks.
 fn broken_by(alloc: Global, schema: &Schema, pieces: Pieces, count: u32) -> Result<String, Fail>
     requires { IsSound schema.now }
 {
@@ -34,7 +36,7 @@ fn broken_by(alloc: Global, schema: &Schema, pieces: Pieces, count: u32) -> Resu
     broken(alloc, schema, "PT", text.as_slice())
 }
 
-/// Which of these break something else.
+/// Returns which of these break something else.
 fn wrong_depths(alloc: Global) -> Result<String, Fail> {
     let schema = the_schema(alloc)?;
     let mut wrong = String::new(alloc);
@@ -62,8 +64,8 @@ fn depths(rt: HostRuntime) -> Result<(), Fail> {
     Ok(())
 }
 
-/// How many findings there are, each of this rule, in lines so far apart from this one on; nothing
-/// where there are others.
+/// Returns the number of findings, if all are of this rule, in lines `apart` lines from each other,
+/// beginning with line `first`; 0 if not.
 fn count_of(findings: &Findings, rule: Rule, first: u32, apart: u32) -> usize {
     let mut line = first;
     for finding in findings.as_slice() {
@@ -76,8 +78,8 @@ fn count_of(findings: &Findings, rule: Rule, first: u32, apart: u32) -> usize {
     findings.len()
 }
 
-/// A text of as many lines as there can be: its pieces, and how many times the second stands there; and
-/// what is found: the rule, the line of the first finding, and how far apart the others are.
+/// A text with the greatest possible number of lines: its pieces, and how often the second is repeated.
+/// Then what is found: the rule, the line of the first finding, and the distance of the others.
 struct Large {
     pieces: Pieces,
     count: u32,
@@ -86,9 +88,9 @@ struct Large {
     apart: u32,
 }
 
-/// Texts, with how many bytes they have, and how many findings.
+/// Texts, with the number of their bytes and of their findings.
 const LARGE: &[(Large, &str)] = &[
-    // A side's main again and again: each but the first is a place.
+    // The main of a side again and again: each but the first is a finding.
     (
         Large {
             pieces: ["", "parent main\nend\n", "", "", ""],
@@ -99,7 +101,7 @@ const LARGE: &[(Large, &str)] = &[
         },
         "1048576 65535",
     ),
-    // Lines of one byte, of which each is no statement.
+    // Lines of one byte that are not statements.
     (
         Large {
             pieces: ["", "x\n", "", "", ""],
@@ -110,7 +112,7 @@ const LARGE: &[(Large, &str)] = &[
         },
         "1048576 524288",
     ),
-    // Returns of which each but the last has another behind it.
+    // Statements `return`: each but the last has another one after it.
     (
         Large {
             pieces: ["child on PT.Call\n", "return (1)\n", "end\n", "", ""],
@@ -121,7 +123,7 @@ const LARGE: &[(Large, &str)] = &[
         },
         "1045021 94999",
     ),
-    // Answers of which each but the first has another before it.
+    // Answers: each but the first has another one before it.
     (
         Large {
             pieces: ["parent on PT.Get\n", "keep k\n", "end\n", "", ""],
@@ -134,7 +136,7 @@ const LARGE: &[(Large, &str)] = &[
     ),
 ];
 
-/// How many findings a text has, as `count_of` has it.
+/// Returns how many findings a text has, by `count_of`.
 fn found_in(alloc: Global, schema: &Schema, text: &[u8], large: &Large) -> Result<usize, Fail>
     requires { IsSound schema.now }
 {
@@ -149,7 +151,7 @@ fn found_in(alloc: Global, schema: &Schema, text: &[u8], large: &Large) -> Resul
     }
 }
 
-/// The bytes of a text, and how many findings it has.
+/// Returns how many bytes a text has, and how many findings.
 fn counted(alloc: Global, schema: &Schema, large: &Large) -> Result<String, Fail>
     requires { IsSound schema.now }
 {
@@ -158,7 +160,7 @@ fn counted(alloc: Global, schema: &Schema, large: &Large) -> Result<String, Fail
     Ok(format!(in alloc; "{} {found}", text.len())?)
 }
 
-/// Which of these have other findings.
+/// Returns which of these have other findings.
 fn wrong_findings(alloc: Global) -> Result<String, Fail> {
     let schema = the_schema(alloc)?;
     let mut wrong = String::new(alloc);
@@ -179,8 +181,8 @@ fn findings(rt: HostRuntime) -> Result<(), Fail> {
     Ok(())
 }
 
-/// One block of as many actions as there can be: its bytes, and whether an action stands at two
-/// places.
+/// Appends, for one block with the greatest possible number of actions: its bytes, and whether there is
+/// an action at two places.
 fn push_actions(alloc: Global, schema: &Schema, shown: &mut String) -> Result<(), Fail>
     requires { IsSound schema.now }
 {
@@ -192,7 +194,8 @@ fn push_actions(alloc: Global, schema: &Schema, shown: &mut String) -> Result<()
     Ok(write!(shown, "{} {last} {next}\n", text.len())?)
 }
 
-/// As many blocks as there can be, of one message: its bytes, and how many these are.
+/// Appends, for the greatest possible number of blocks for one message: the bytes, and the number of
+/// blocks.
 fn push_blocks(alloc: Global, schema: &Schema, shown: &mut String) -> Result<(), Fail>
     requires { IsSound schema.now }
 {
@@ -202,7 +205,7 @@ fn push_blocks(alloc: Global, schema: &Schema, shown: &mut String) -> Result<(),
     Ok(write!(shown, "{} {}\n", text.len(), script.blocks.len())?)
 }
 
-/// What these have, and what a text of line feeds breaks, which is nothing.
+/// Returns the results for these, and what a text of line feeds breaks, which is nothing.
 fn scripts_text(alloc: Global) -> Result<String, Fail> {
     let schema = the_schema(alloc)?;
     let mut shown = broken_by(alloc, &schema, ["", "\n", "", "", ""], 1_048_576)?;
@@ -218,7 +221,7 @@ fn scripts(rt: HostRuntime) -> Result<(), Fail> {
     Ok(())
 }
 
-/// A schema of one protocol with this many messages.
+/// Returns a schema of one protocol with this many messages.
 fn schema_of_many(alloc: Global, count: u32) -> Result<Schema, Fail>
     ensures { IfOk result IsSound }
 {
@@ -230,8 +233,8 @@ fn schema_of_many(alloc: Global, count: u32) -> Result<Schema, Fail>
     schema_of_top(alloc, text.as_str(), "PT")
 }
 
-/// As many sends as there can be of the last of many messages: their bytes, and whether an action
-/// stands at two places.
+/// Returns, for the greatest possible number of sends of the last of many messages: their bytes, and
+/// whether there is an action at two places.
 fn sends_of_many(alloc: Global) -> Result<String, Fail> {
     let schema = schema_of_many(alloc, 8_192)?;
     let pieces = ["child main\n", "send top PT.M8191()\n", "end\n", "", ""];

@@ -1,4 +1,4 @@
-//! Tests of handler scripts over texts: what each line says, which rules a script breaks and where, the
+//! Tests of handler scripts as texts: how each line is read, which rules a script breaks and where, the
 //! scripts of the worked cases, the actions of a script one by one, and texts as deep and as large as
 //! they can be.
 #![tactic(auto)]

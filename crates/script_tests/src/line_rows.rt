@@ -1,7 +1,9 @@
+//! Rows on lines, blocks and tops.
+
 /// Scripts, with the rules of lines, blocks and tops that they break. The first line of each has the
-/// top's short name and what the script is about; the others are its lines. Before `> ` stand the
-/// rules that a line breaks, or the script as a whole. A line `<N TEXT` is the text with so many
-/// blanks behind it that it has N bytes.
+/// top's short name and the subject of the script; the others are its lines. The rules before `> ` are
+/// those that a line breaks, or the script as a whole. A line `<N TEXT` is the text with blanks after
+/// it, up to N bytes.
 pub const LINES: &str = "PT: An empty script
 ====
 PT: Comments and blank lines say nothing

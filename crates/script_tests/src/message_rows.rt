@@ -1,5 +1,7 @@
-/// Scripts, as `line_rows` has them, with the rules on messages that they break: whether they are
-/// there, who sends and receives them, and whether they are carried.
+//! Rows on messages.
+
+/// Scripts in the form of `line_rows`, with the rules on messages that they break: whether they exist,
+/// who sends and receives them, and whether they are carried.
 pub const MESSAGES: &str = "PT: Protocols and messages that are not there
 parent main
 K3> send top PT.Gone()

@@ -1,20 +1,20 @@
+//! Messages by name, directions, and values that fit types.
+
 use super::given::{note, the_schema};
 use super::pieces::joined;
 use super::shows::push_terms;
-use handler_script::{
-    MessageTable, Term, Terms, each_fits, receives, replies, resolves, sends, terms_of,
-};
+use handler_script::{MessageTable, Term, Terms, each_fits, receives, replies, resolves, terms_of};
 use ipdl_base::{Builtin, Direction, MessageRow, Name, ParamRow, Schema, Shape, Side};
 use script_reader::{LineReading, LineReadings, MessageName, Statement, WrittenValues, read_lines};
 use std::alloc::{AllocError, Global};
 use std::test::Fail;
 
-/// A name of text.
+/// Returns the name that a text spells.
 fn name(alloc: Global, text: &str) -> Result<Name, AllocError> {
     Name::from_slice(alloc, text.as_bytes())
 }
 
-/// The message of this name; nothing where it is not there.
+/// Returns the message with this name, or `None` if it does not exist.
 fn named<'a>(
     alloc: Global,
     messages: &MessageTable<'a>,
@@ -26,8 +26,8 @@ fn named<'a>(
     Ok(messages.find(&MessageName { protocol, message }))
 }
 
-/// Messages by their names, with the numbers of their requests, and the counts of what answers them
-/// as async and as sync messages; 9 where there is none.
+/// Messages by name, with the numbers of their requests, and the number of values that answer them as
+/// async and as sync messages; 9 if there is no such answer.
 const MESSAGES: &[(&str, &str, &str)] = &[
     ("PT", "Flag", "196608 9 9"),
     ("PT", "Small", "196610 9 9"),
@@ -48,7 +48,7 @@ const MESSAGES: &[(&str, &str, &str)] = &[
     ("", "", "none"),
 ];
 
-/// A message as it stands in `MESSAGES`.
+/// Returns a message in the form of `MESSAGES`.
 fn shown(alloc: Global, message: Option<&MessageRow>) -> Result<String, AllocError> {
     let Some(message) = message else {
         return String::from_str(alloc, "none");
@@ -59,7 +59,7 @@ fn shown(alloc: Global, message: Option<&MessageRow>) -> Result<String, AllocErr
     format!(in alloc; "{number} {resolved} {replied}")
 }
 
-/// Which of these messages are others.
+/// Returns which of these messages differ.
 fn wrong_messages(alloc: Global) -> Result<String, Fail> {
     let schema = the_schema(alloc)?;
     let messages = MessageTable::new(alloc, &schema)?;
@@ -90,11 +90,11 @@ fn messages(rt: HostRuntime) -> Result<(), Fail> {
 #[test]
 fn directions(rt: HostRuntime) {
     for (side, direction, received, sent) in DIRECTIONS {
-        assert!(rt; receives(*side, *direction) == *received && sends(*side, *direction) == *sent);
+        assert!(rt; receives(*side, *direction) == *received && side.sends(*direction) == *sent);
     }
 }
 
-/// The values of the first line, which is a `resolve`.
+/// Returns the values of the first line, which is a `resolve`.
 fn values_in(readings: &LineReadings) -> Result<&WrittenValues, Fail> {
     match readings.as_slice().first() {
         Some(LineReading::Statement(held)) => match held.as_ref() {
@@ -105,8 +105,8 @@ fn values_in(readings: &LineReadings) -> Result<&WrittenValues, Fail> {
     }
 }
 
-/// Values in the handler of `PT.Many`, whether they fit the parameters of a message of `PT`, and the
-/// terms that they are there.
+/// Values in the handler of `PT.Many`: whether they fit the parameters of a message of `PT`, and their
+/// terms.
 const FITS: &[(&str, &str, &str)] = &[
     ("Flag", "resolve (true)", "true true,"),
     ("Flag", "resolve ($4)", "true param 4,"),
@@ -140,7 +140,7 @@ const FITS: &[(&str, &str, &str)] = &[
     ),
 ];
 
-/// Whether values fit these parameters, and the terms that they are there.
+/// Returns whether values fit these parameters, and their terms.
 fn fitted(
     alloc: Global,
     schema: &Schema,
@@ -154,7 +154,7 @@ fn fitted(
     Ok(shown)
 }
 
-/// Notes the values of a line that fit a message otherwise.
+/// Notes the values of a line if they do not fit a message as expected.
 fn check_fit(
     alloc: Global,
     schema: &Schema,
@@ -172,7 +172,7 @@ fn check_fit(
     Ok(note(line, found.as_str(), wanted, wrong)?)
 }
 
-/// Which of these fit otherwise.
+/// Returns which of these do not fit as expected.
 fn wrong_fits(alloc: Global) -> Result<String, Fail> {
     let schema = the_schema(alloc)?;
     let mut wrong = String::new(alloc);
@@ -188,7 +188,7 @@ fn fits_and_terms(rt: HostRuntime) -> Result<(), Fail> {
     Ok(())
 }
 
-/// The type of arrays in one another, so deep.
+/// Returns the type of nested arrays of this depth.
 fn arrays(alloc: Global, count: u32) -> Result<Shape, AllocError> {
     let mut shape = Shape::Builtin(Builtin::Bool);
     for _ in 0..count {
@@ -197,7 +197,7 @@ fn arrays(alloc: Global, count: u32) -> Result<Shape, AllocError> {
     Ok(shape)
 }
 
-/// One parameter of that type.
+/// Returns one parameter of that type.
 fn field(alloc: Global, count: u32) -> Result<Vec<ParamRow>, AllocError> {
     let row = ParamRow {
         name: Name::empty(),
@@ -208,7 +208,7 @@ fn field(alloc: Global, count: u32) -> Result<Vec<ParamRow>, AllocError> {
     Ok(rows)
 }
 
-/// How many arrays stand in one another, each alone in the one around it.
+/// Returns how many arrays are nested, each the only element of the one around it.
 fn depth(terms: &Terms) -> u32 {
     match terms {
         Terms::First(first, _) => match first.as_ref() {
@@ -219,7 +219,7 @@ fn depth(terms: &Terms) -> u32 {
     }
 }
 
-/// Appends whether values fit arrays so deep.
+/// Appends whether values fit arrays of this depth.
 fn push_fit(
     alloc: Global,
     schema: &Schema,
@@ -248,7 +248,7 @@ fn push_depths(
     write!(out, "{} {}", depth(&terms), depth(&copied))
 }
 
-/// What the values of a line fit, and how deep they are.
+/// Returns what the values of a line fit, and how deep they are.
 fn nested_text(alloc: Global, schema: &Schema, line: &[u8]) -> Result<String, Fail> {
     let readings = read_lines(alloc, line)?;
     let values = values_in(&readings)?;
@@ -260,15 +260,15 @@ fn nested_text(alloc: Global, schema: &Schema, line: &[u8]) -> Result<String, Fa
     Ok(shown)
 }
 
-/// The same, of so many arrays in one another, of which the innermost is empty.
+/// Returns the same for this number of nested arrays. The innermost is empty.
 fn arrays_text(alloc: Global, count: u32) -> Result<String, Fail> {
     let schema = the_schema(alloc)?;
     let line = joined(alloc, ["resolve (", "[", "", "]", ")"], count)?;
     nested_text(alloc, &schema, line.as_slice())
 }
 
-/// Arrays 8,000 deep are read, fitted, copied and dropped. The innermost is empty, so it fits arrays
-/// that are deeper, and none that are not as deep.
+/// Arrays 8,000 deep are read, fitted, copied and dropped. The innermost is empty, so it fits deeper
+/// arrays, but not shallower ones.
 #[test]
 fn arrays_in_arrays(rt: HostRuntime) -> Result<(), Fail> {
     let shown = arrays_text(rt.alloc(), 8000)?;

@@ -1,10 +1,12 @@
+//! Texts made of repeated pieces.
+
 use std::alloc::{AllocError, Global};
 
-/// A text in pieces: its begin, what stands behind it so many times, its middle, what stands behind
-/// that as often, and its end.
+/// A text in pieces: its start, a piece that is repeated, its middle, another piece that is repeated as
+/// often, and its end.
 pub type Pieces = [&'static str; 5];
 
-/// Appends this, so many times.
+/// Appends a piece `count` times.
 fn push_times(piece: &str, count: u32, text: &mut Vec<u8>) -> Result<(), AllocError> {
     for _ in 0..count {
         text.extend_from_slice(piece.as_bytes())?;
@@ -12,7 +14,7 @@ fn push_times(piece: &str, count: u32, text: &mut Vec<u8>) -> Result<(), AllocEr
     Ok(())
 }
 
-/// The text of these pieces.
+/// Returns the text of these pieces.
 pub fn joined(alloc: Global, pieces: Pieces, count: u32) -> Result<Vec<u8>, AllocError> {
     let [begin, open, middle, close, end] = pieces;
     let mut text = Vec::from_slice(alloc, begin.as_bytes())?;

@@ -1,5 +1,6 @@
-/// Scripts, as `line_rows` has them, of which some have statements that are not allowed where they
-/// stand.
+//! Rows on what is allowed where.
+
+/// Scripts in the form of `line_rows`. Some have statements that are not allowed where they are.
 pub const PLACES: &str = "PT: A main handles no message
 parent main
 K6> let x this

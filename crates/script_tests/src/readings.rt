@@ -1,3 +1,5 @@
+//! How each line of a text is read.
+
 use super::given::note;
 use super::pieces::{Pieces, joined};
 use super::shows::push_statement;
@@ -5,7 +7,8 @@ use script_reader::{LineReading, MAX_LINE_LEN, read_lines};
 use std::alloc::{AllocError, Global};
 use std::test::Fail;
 
-/// What kind of thing a line says: `.` nothing, `s` a statement, `1` and `9` by the rules.
+/// Returns the kind of a reading: `.` is silent, `s` a statement; `1` and `9` name the rules that it
+/// breaks.
 fn kind(reading: &LineReading) -> char {
     match reading {
         LineReading::Silent => '.',
@@ -15,7 +18,7 @@ fn kind(reading: &LineReading) -> char {
     }
 }
 
-/// The kinds of the lines of a text.
+/// Returns the kinds of the lines of a text.
 fn kinds(alloc: Global, text: &[u8]) -> Result<String, AllocError> {
     let readings = read_lines(alloc, text)?;
     let mut out = String::new(alloc);
@@ -25,7 +28,7 @@ fn kinds(alloc: Global, text: &[u8]) -> Result<String, AllocError> {
     Ok(out)
 }
 
-/// Each line with the kind that it is to have.
+/// Lines, each with its expected kind.
 const LINES: &[(&str, &str)] = &[
     ("", "."),
     ("  \t\r", "."),
@@ -125,14 +128,14 @@ const LINES: &[(&str, &str)] = &[
     ("\u{c}", "1"),
 ];
 
-/// Texts of several lines, with the kinds that these are to have.
+/// Texts of several lines, with the expected kinds of these.
 const TEXTS: &[(&[u8], &str)] = &[
     (b"parent main\nend\n", "ss."),
     (b"\n\nx\r\n# y", "..1."),
     (b"resolve (\"\xff\")\nresolve (\"\xc3\xa4\x01\")", "1s"),
 ];
 
-/// Which of these lines and texts have other kinds.
+/// Returns which of these lines and texts have other kinds.
 fn wrong_kinds(alloc: Global) -> Result<String, AllocError> {
     let mut wrong = String::new(alloc);
     for (line, wanted) in LINES {
@@ -152,7 +155,7 @@ fn lines(rt: HostRuntime) -> Result<(), Fail> {
     Ok(())
 }
 
-/// The statements of a text, each with a line feed behind it.
+/// Returns the statements of a text, each followed by a line feed.
 fn said(alloc: Global, text: &str) -> Result<String, AllocError> {
     let readings = read_lines(alloc, text.as_bytes())?;
     let mut out = String::new(alloc);
@@ -172,7 +175,7 @@ return (-00099999999999999999999999999999999999999999999)
 resolve (\"\\\"\\\\\\n\\t\\x41\")
 send made P.M(@07[h\"fF0A\"])";
 
-/// What these say.
+/// The statements of these lines.
 const SAID: &str = "child main
 let x $4294967295
 return -18446744073709551616,
@@ -199,7 +202,7 @@ const DEEP: &[(Pieces, u32, &str)] = &[
     (["resolve(", "0", "1", "", ")"], 16_000, "s"),
 ];
 
-/// Which of these lines have other kinds.
+/// Returns which of these lines have other kinds.
 fn wrong_depths(alloc: Global) -> Result<String, AllocError> {
     let mut wrong = String::new(alloc);
     for (pieces, count, wanted) in DEEP {
@@ -210,13 +213,14 @@ fn wrong_depths(alloc: Global) -> Result<String, AllocError> {
     Ok(wrong)
 }
 
-/// The bytes of what stands so many times, and its lines.
+/// Returns how many bytes a repeated piece has, and how many lines.
 fn sizes(alloc: Global, piece: &'static str, count: u32) -> Result<(usize, usize), AllocError> {
     let text = joined(alloc, ["", piece, "", "", ""], count)?;
     Ok((text.len(), read_lines(alloc, text.as_slice())?.len()))
 }
 
-/// The first of the lines has as many bytes as a line can have; the texts are of the greatest size.
+/// The first of the lines has the greatest possible number of bytes. The texts have the greatest
+/// possible size.
 #[test]
 fn depths_and_sizes(rt: HostRuntime) -> Result<(), Fail> {
     let alloc = rt.alloc();

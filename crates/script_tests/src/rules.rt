@@ -1,3 +1,5 @@
+//! Which rules a script breaks, and where.
+
 ghost use Rattle.ipdl_base.specs.Sound.{IsSound};
 
 use super::given::{broken, note, schema_of_top, the_schema};
@@ -11,7 +13,7 @@ use ipdl_base::Schema;
 use std::alloc::{AllocError, Global};
 use std::test::Fail;
 
-/// The rules that a line is marked with, as `K4 K5> `, and the line itself.
+/// Returns the rules that a line is marked with, as `K4 K5> `, and the line itself.
 fn marked(line: &str) -> (Option<&str>, &str) {
     match line.split_once("> ") {
         Some((rules, text)) if line.starts_with("K") => (Some(rules), text),
@@ -19,7 +21,7 @@ fn marked(line: &str) -> (Option<&str>, &str) {
     }
 }
 
-/// Appends a line: `<N TEXT` is the text with blanks behind it up to N bytes.
+/// Appends a line: `<N TEXT` is the text with blanks after it, up to N bytes.
 fn push_line(line: &str, script: &mut Vec<u8>) -> Result<(), Fail> {
     if let Some(rest) = line.strip_prefix("<") {
         if let Some((digits, text)) = rest.split_once(" ") {
@@ -47,7 +49,7 @@ fn push_findings(
     Ok(())
 }
 
-/// Appends a marked line, which has this number, and the findings that it is marked with.
+/// Appends a marked line with this number, and the findings that it is marked with.
 fn push_marked(
     line: &str,
     number: u32,
@@ -61,7 +63,7 @@ fn push_marked(
     push_line(line, script)
 }
 
-/// The script of marked lines; what they are marked with is appended.
+/// Returns the script of marked lines. Appends the findings that they are marked with to `wanted`.
 fn script_of(alloc: Global, lines: &str, wanted: &mut String) -> Result<Vec<u8>, Fail> {
     let mut script = Vec::new(alloc);
     let mut number = 0u32;
@@ -92,7 +94,8 @@ fn check(alloc: Global, schema: &Schema, row: &str, wrong: &mut String) -> Resul
     Ok(note(about, found.as_str(), wanted.as_str(), wrong)?)
 }
 
-/// Appends what the scripts of a table break that they are not marked with, and how many they are.
+/// Appends the scripts of a table that break other rules than they are marked with, and the number of
+/// scripts.
 fn push_checked(alloc: Global, schema: &Schema, table: &str, out: &mut String) -> Result<(), Fail>
     requires { IsSound schema.now }
 {
@@ -104,7 +107,7 @@ fn push_checked(alloc: Global, schema: &Schema, table: &str, out: &mut String) -
     Ok(write!(out, "{count} ")?)
 }
 
-/// The same, of the tables of the one program.
+/// Returns the same for the tables of the program of the tests.
 fn checked(alloc: Global) -> Result<String, Fail> {
     let schema = the_schema(alloc)?;
     let mut shown = String::new(alloc);
@@ -115,7 +118,7 @@ fn checked(alloc: Global) -> Result<String, Fail> {
     Ok(shown)
 }
 
-/// Scripts on lines, messages, values and places, and how many there are of each.
+/// Scripts on lines, messages, values and places, and the number of each.
 #[test]
 fn rules(rt: HostRuntime) -> Result<(), Fail> {
     assert_eq!(rt; checked(rt.alloc())?.as_str(), "39 18 28 21 ");
@@ -129,7 +132,7 @@ fn check_worked(alloc: Global, row: &str, wrong: &mut String) -> Result<(), Fail
     check(alloc, &schema, row, wrong)
 }
 
-/// The same, of worked scripts.
+/// Returns the same for the worked scripts.
 fn checked_worked(alloc: Global) -> Result<String, Fail> {
     let mut shown = String::new(alloc);
     let mut count = 0u32;
@@ -147,13 +150,14 @@ fn worked(rt: HostRuntime) -> Result<(), Fail> {
     Ok(())
 }
 
-/// Appends a line that sends so many bytes.
+/// Appends a line that sends this number of bytes.
 fn push_put(alloc: Global, count: u32, script: &mut Vec<u8>) -> Result<(), AllocError> {
     let pieces = ["send top PZ.Put(h\"", "00", "\")\n", "", ""];
     Ok(script.extend_from_slice(joined(alloc, pieces, count)?.as_slice())?)
 }
 
-/// What lines as long as the greatest payload break, and longer ones. The fourth has 16,386 bytes.
+/// Returns what lines break that are as long as the greatest payload, or longer. The fourth has 16,386
+/// bytes.
 fn broken_puts(alloc: Global) -> Result<String, Fail> {
     let schema = schema_of_top(alloc, FILES, "PZ")?;
     let mut script = Vec::from_slice(alloc, b"child main\n")?;
@@ -183,7 +187,7 @@ const BYTES: &[(&[u8], &str)] = &[
     (b"parent main\nend\n\xff", "0:3:1 K1 "),
     (b"parent main\n\nend\x00", "0:1:1 K2 0:3:1 K1 "),
     (b"\xef\xbb\xbfparent main\nend\n", "0:1:1 K1 0:2:1 K2 "),
-    // Texts have to be UTF-8.
+    // Texts must be UTF-8.
     (
         b"parent main\nsend top PT.TellText(\"\xc3\xa4\xe2\x82\xac\xf0\x9d\x84\x9e\x01\x7f\")\nend",
         "",
@@ -216,12 +220,12 @@ const BYTES: &[(&[u8], &str)] = &[
         b"parent main\nsend top PT.TellText(\"\xc3\\x80\")\nend",
         "0:2:1 K1 ",
     ),
-    // Other bytes make no token.
+    // Other bytes are not tokens.
     (b"parent main\nlet \xc3\xa4 top\nend", "0:2:1 K1 "),
     (b"parent main\nlet x\xa0top\nend", "0:2:1 K1 "),
 ];
 
-/// What of these texts is broken otherwise than it should be.
+/// Returns which of these texts break other rules than they should.
 fn wrong_bytes(alloc: Global, schema: &Schema) -> Result<String, Fail>
     requires { IsSound schema.now }
 {

@@ -1,14 +1,16 @@
+//! Terms and statements as text.
+
 use handler_script::{Term, Terms, Who};
 use ipdl_base::{Name, Side};
 use script_reader::{Atom, Statement, WrittenMessage, WrittenValue, WrittenValues};
 use std::alloc::AllocError;
 
-/// The text of a name.
+/// Returns the text of a name.
 pub fn text(name: &Name) -> &str {
     str::from_utf8(name.as_slice()).unwrap_or("no text")
 }
 
-/// Appends one who is spoken of.
+/// Appends what a value refers to.
 pub fn push_who(who: &Who, out: &mut String) -> Result<(), AllocError> {
     match who {
         Who::Top => out.push_str("top"),
@@ -27,7 +29,7 @@ pub fn push_bytes(bytes: &[u8], out: &mut String) -> Result<(), AllocError> {
     Ok(())
 }
 
-/// Appends a term, with a word before it where its text alone does not say which it is.
+/// Appends a term, with a word before it if the text alone does not show which kind it is.
 #[cycle(shown)]
 fn push_term(term: &Term, out: &mut String) -> Result<(), AllocError> {
     match term {
@@ -67,7 +69,7 @@ fn push_group(open: char, terms: &Terms, close: char, out: &mut String) -> Resul
     out.push(close)
 }
 
-/// Appends terms, each with a comma behind it.
+/// Appends terms, each followed by a comma.
 #[cycle(shown)]
 pub fn push_terms(terms: &Terms, out: &mut String) -> Result<(), AllocError> {
     match terms {
@@ -111,7 +113,7 @@ fn push_written(value: &WrittenValue, out: &mut String) -> Result<(), AllocError
     }
 }
 
-/// Appends values, each with a comma behind it.
+/// Appends values, each followed by a comma.
 #[cycle(written)]
 fn push_values(values: &WrittenValues, out: &mut String) -> Result<(), AllocError> {
     match values {
@@ -131,7 +133,7 @@ fn push_call(call: &WrittenMessage, out: &mut String) -> Result<(), AllocError> 
     push_values(&call.values, out)
 }
 
-/// Appends a statement of one of some forms.
+/// Appends a statement, for some forms of statements.
 pub fn push_statement(statement: &Statement, out: &mut String) -> Result<(), AllocError> {
     match statement {
         Statement::Main(Side::Child) => out.push_str("child main"),

@@ -1,4 +1,6 @@
-/// Scripts, as `line_rows` has them, of which some have values that do not fit.
+//! Rows on values.
+
+/// Scripts in the form of `line_rows`. Some have values that do not fit.
 pub const VALUES: &str = "PT: As many values as parameters
 parent main
 K5> send top PT.Tell()

@@ -1,4 +1,6 @@
-/// The files of the worked scripts, each with its name behind `@ `, and then its text.
+//! The worked scripts.
+
+/// The files of the worked scripts. Each begins with `@ ` and its name, followed by its text.
 pub const FILES: &str = "@ PW.ipdl
 [NestedUpTo=inside_cpow]
 sync protocol PW {

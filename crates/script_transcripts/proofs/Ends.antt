@@ -1,4 +1,4 @@
--- Every run of a valid script can go on until it ends.
+-- Every run of a valid script can continue until it ends.
 use Rattle.std.proofs.Common.{◌≡◌, ℕ, zero, suc, ◌+◌, ◌*◌, ◌<◌, ◌≤◌, Bool, true, false, not, ◌&&◌, cond, if◌then◌else◌, List, [], ◌∷◌, ◌++◌, length, map, filter, Option, Some, None, is_some, option_and_then, inl, inr, ◌⊎◌, refl, sym, ap, subst, ◌∙◌, length-append, arith}
 use Rattle.std.specs.List.{cons_option}
 use Rattle.handler_script.specs.Valid.{IsValid}
@@ -16,7 +16,7 @@ use Rattle.script_runs.proofs.CaseRuns.{IsCase}
 use Rattle.script_runs.proofs.Possible.{script_events_are_possible}
 use Rattle.script_runs.proofs.Room.{cases_have_room}
 use Rattle.script_steps.proofs.Choosing.{choices_are_read}
-use Rattle.script_runs.proofs.Growth.{plays-behind}
+use Rattle.script_runs.proofs.Growth.{plays-following}
 use Rattle.script_steps.specs.Choices.{Setting, Choice, beginning_of, choice_of, choices_of, chosen, is_delivery_line, is_within, may_deliver, own_event, played}
 use Rattle.script_steps.specs.Progress.{lines_of}
 use Rattle.script_steps.specs.Turns.{RunEnding, at_limit, at_rest, delivery_choice, is_quiet, is_quiet_at, led_to, turn_choice, whole_turn}
@@ -67,9 +67,9 @@ busy-side setting state h = by (is_quiet_at setting state sides.Parent) refl h
     by false is k = (sides.Parent, is)
     by true is k = (sides.Child, k)
 
--- So many choices are more than a run has
+-- A number of choices that no run has
 
--- how many choices are more than a run has
+-- a number above that of the choices of any run
 abbrev too_many : Setting → ℕ
 too_many setting = 10 * setting.limit + 3
 
@@ -86,8 +86,8 @@ module _ (setting : Setting) (sound : IsSound setting.schema) (valid : IsValid s
       omega (arith, parent, parent_limit, child, child_limit, told, read)
 
   -- one more choice, and then the others
-  ends-behind : (state next : RunState) (choice : Choice) → chosen setting choice state ≡ Some next → Ends setting next → Ends setting state
-  ends-behind state next choice is e = record { more = choice ∷ e.more; last = e.last; plays = ap (option_and_then (played setting e.more)) is ∙ e.plays; ending = e.ending; ends = e.ends }
+  ends-following : (state next : RunState) (choice : Choice) → chosen setting choice state ≡ Some next → Ends setting next → Ends setting state
+  ends-following state next choice is e = record { more = choice ∷ e.more; last = e.last; plays = ap (option_and_then (played setting e.more)) is ∙ e.plays; ending = e.ending; ends = e.ends }
 
   ends-busy : (fuel : ℕ) → ((next : RunState) (c : IsCase setting next) → too_many setting ≤ length c.choices + fuel → Ends setting next) → (state : RunState) (c : IsCase setting state) → too_many setting ≤ length c.choices + suc fuel
       → (side : Side) → is_quiet_at setting state side ≡ false → (within : Bool) → is_within setting side state ≡ within → Ends setting state
@@ -97,9 +97,9 @@ module _ (setting : Setting) (sound : IsSound setting.schema) (valid : IsValid s
       let possible : EventsArePossible setting state = script_events_are_possible setting c.choices state sound valid limit c.plays in
       let next : RunState = led_to setting w.choice state in
       let goes : chosen setting w.choice state ≡ Some next = possible.turn (whole_turn side) w.choice w.chooses is in
-      let plays : played setting (c.choices ++ w.choice ∷ []) (beginning_of setting) ≡ Some next = plays-behind setting c.choices (w.choice ∷ []) (beginning_of setting) state next c.plays (ap (option_and_then (played setting [])) goes) in
+      let plays : played setting (c.choices ++ w.choice ∷ []) (beginning_of setting) ≡ Some next = plays-following setting c.choices (w.choice ∷ []) (beginning_of setting) state next c.plays (ap (option_and_then (played setting [])) goes) in
       let longer : length (c.choices ++ w.choice ∷ []) ≡ length c.choices + 1 = length-append c.choices (w.choice ∷ []) in
-      ends-behind state next w.choice goes (more next (record { choices = c.choices ++ w.choice ∷ []; plays = plays }) (omega (arith, few, longer)))
+      ends-following state next w.choice goes (more next (record { choices = c.choices ++ w.choice ∷ []; plays = plays }) (omega (arith, few, longer)))
 
   ends-step : (fuel : ℕ) → ((next : RunState) (c : IsCase setting next) → too_many setting ≤ length c.choices + fuel → Ends setting next) → (state : RunState) (c : IsCase setting state) → too_many setting ≤ length c.choices + suc fuel
       → (quiet : Bool) → is_quiet setting state ≡ quiet → Ends setting state

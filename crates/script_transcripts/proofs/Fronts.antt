@@ -1,4 +1,4 @@
--- What is printed of a run that follows lines decides how many of these a run may print.
+-- What is printed of a run that follows lines decides how many of these lines a run may print.
 use Rattle.std.proofs.Common.{◌≡◌, ℕ, Bool, true, false, if◌then◌else◌, List, [], ◌∷◌, ◌++◌, map, Option, Some, None, option_and_then, ◌⊎◌, inl, inr, refl, sym, ap, subst, ◌∙◌, append_assoc}
 use Rattle.std.specs.Prelude.{◌↔◌}
 use Rattle.std.specs.List.{AllByRecursion, cons_option}
@@ -16,7 +16,7 @@ use Rattle.history.specs.Text.{line_text, transcript_text}
 use Rattle.script_runs.specs.Laws.{HasLimit}
 use Rattle.script_runs.specs.Endings.{EndsAs, ending_line}
 use Rattle.script_runs.specs.Replays.{ArePrinted, Follows, IsStuck, choices_told, printed_lines}
-use Rattle.script_runs.proofs.Growth.{BeginsEvent, adds-event, plays-behind}
+use Rattle.script_runs.proofs.Growth.{BeginsEvent, adds-event, plays-following}
 use Rattle.script_runs.proofs.TextChoices.{texts-told}
 use Rattle.script_steps.proofs.Choosing.{choices_are_read}
 use Rattle.script_steps.proofs.Playing.{PlaysOn, plays_on, choices_grow}
@@ -27,13 +27,13 @@ use Rattle.script_transcripts.specs.Laws.{Ends, LegalTextsDecide, ReplaysDecide}
 use Rattle.script_transcripts.specs.Legal.{AreFirstLines, IsLegalText}
 use Rattle.script_transcripts.proofs.Ends.{cases_end}
 use Rattle.script_transcripts.proofs.Texts.{transcript-lines}
-use Rattle.transcript_laws.specs.Printed.{line_texts}
-use Rattle.transcript_laws.specs.TextLines.{text_lines}
-use Rattle.transcript_laws.proofs.Parts.{texts-append}
+use Rattle.transcripts.specs.Printed.{line_texts}
+use Rattle.transcripts.specs.TextLines.{text_lines}
+use Rattle.transcripts.proofs.Parts.{texts-append}
 
 -- Lists with two seams
 
--- the second seam of a list lies at the first one or behind it, or before it
+-- the second seam of a list is at the first one or after it, or before it
 abbrev pub SeamsOf : {A : Type 0} → List A → List A → List A → List A → Type 0
 SeamsOf {A} xs ys zs ws = ((us : List A) × (zs ≡ xs ++ us) × (ys ≡ us ++ ws)) ⊎ ((u : A) × (us : List A) × (xs ≡ zs ++ u ∷ us) × (ws ≡ u ∷ us ++ ys))
 
@@ -77,16 +77,16 @@ told-none : (b : Bool) (choice : Choice) (choices : List Choice) → b ≡ false
 told-none true choice choices h k = cc
 told-none false choice choices h k = cc
 
--- lines that begin with an event tell of a choice
+-- lines that begin with an event record a choice
 tells-choice : (line : Line) (lines : List Line) → is_effect line.what ≡ false → choices_of (line ∷ lines) ≡ [] → ⊥
 tells-choice line lines h k = told-none (is_effect line.what) (record { side = line.side; delivers = is_delivery_line line.what }) (choices_of lines) h k
 
--- One state behind choices
+-- One state after choices
 
 one-state : (setting : Setting) (choices : List Choice) (state next : RunState) → played setting choices (beginning_of setting) ≡ Some state → played setting choices (beginning_of setting) ≡ Some next → state ≡ next
 one-state setting choices state next h k = let both : Some state ≡ Some next = sym h ∙ k in cc
 
--- what has been made cannot be impossible
+-- choices that have been made cannot be impossible
 stuck-not : (setting : Setting) (told done choices : List Choice) (state : RunState) (stuck : IsStuck setting told done) (more : List Choice) → choices ≡ stuck.first ++ stuck.choice ∷ more → played setting choices (beginning_of setting) ≡ Some state → ⊥
 stuck-not setting told done choices state stuck more is plays =
     let g : GoesOn setting stuck.first (stuck.choice ∷ more) (beginning_of setting) state = choices_grow setting stuck.first (stuck.choice ∷ more) (beginning_of setting) state (subst (λ cs. played setting cs (beginning_of setting) ≡ Some state) is plays) in
@@ -96,7 +96,7 @@ stuck-not setting told done choices state stuck more is plays =
     let both : None ≡ Some p.next = sym none ∙ p.first in
     cc
 
--- A run that follows lines has made the choices that first lines tell, where these are possible.
+-- A run that follows lines has made the choices that first lines show, if these are possible.
 has-made : (setting : Setting) (told done first others : List Choice) (state : RunState) → (told ≡ done) ⊎ IsStuck setting told done → told ≡ first ++ others → played setting first (beginning_of setting) ≡ Some state
     → (more : List Choice) × (done ≡ first ++ more)
 has-made setting told done first others state (inl same) is plays = (others, sym same ∙ is)
@@ -141,7 +141,7 @@ module _ (setting : Setting) (sound : IsSound setting.schema) (valid : IsValid s
       let own = lines-made choices state g.between s.first s.others (choices_of s.others) s.lines_are g.before g.after in
       let on : GoesOn setting (choices_of s.first) made.0 (beginning_of setting) last = choices_grow setting (choices_of s.first) made.0 (beginning_of setting) last (subst (λ cs. played setting cs (beginning_of setting) ≡ Some last) made.1 follows.plays) in
       let same : on.between ≡ g.between = one-state setting (choices_of s.first) on.between g.between on.before g.before in
-      let lines : last.lines ≡ s.first ++ (own.0 ++ on.lines) = on.behind ∙ ap (λ (x : RunState). x.lines ++ on.lines) same ∙ ap (λ ls. ls ++ on.lines) own.1 ∙ append_assoc s.first own.0 on.lines in (
+      let lines : last.lines ≡ s.first ++ (own.0 ++ on.lines) = on.following ∙ ap (λ (x : RunState). x.lines ++ on.lines) same ∙ ap (λ ls. ls ++ on.lines) own.1 ∙ append_assoc s.first own.0 on.lines in (
         line_texts schema s.first (own.0 ++ on.lines),
         ap (line_texts schema []) lines ∙ texts-append schema [] s.first (own.0 ++ on.lines) ∙ ap (λ ts. ts ++ line_texts schema s.first (own.0 ++ on.lines)) (sym s.texts_are),
       )
@@ -175,9 +175,9 @@ module _ (setting : Setting) (sound : IsSound setting.schema) (valid : IsValid s
   legal-lines : (text : List ℕ) (l : IsLegalText setting text) → text_lines text ≡ printed_lines setting l.state ++ ending_line l.ending ∷ []
   legal-lines text l = ap text_lines l.is ∙ transcript-lines setting l.choices l.state (ending_line l.ending) sound valid l.plays ∙ ap (λ ts. printed_lines setting l.state ++ ts) (ending-alone l.ending)
 
-  nothing-behind : {A : Type 0} (xs ys : List A) → xs ++ ys ≡ [] → xs ≡ []
-  nothing-behind [] ys h = refl
-  nothing-behind (x ∷ xs) ys h = cc
+  nothing-following : {A : Type 0} (xs ys : List A) → xs ++ ys ≡ [] → xs ≡ []
+  nothing-following [] ys h = refl
+  nothing-following (x ∷ xs) ys h = cc
 
   pub first-printed : (front rest : List (List ℕ)) (last : RunState) → Follows setting (front ++ rest) last → AreFirstLines setting front → ArePrinted setting last front
   first-printed front rest last follows a =
@@ -188,7 +188,7 @@ module _ (setting : Setting) (sound : IsSound setting.schema) (valid : IsValid s
       by l (inl s) = inl (front-follows front rest s.0 last l.choices l.state follows l.plays s.1)
       by l (inr s) =
           let e = cons-head (ending_line l.ending) s.0 [] (s.1 ++ a.others) s.3 in
-          let none : s.1 ≡ [] = nothing-behind s.1 a.others (sym e.1) in
+          let none : s.1 ≡ [] = nothing-following s.1 a.others (sym e.1) in
           let front_is : front ≡ printed_lines setting l.state ++ ending_line l.ending ∷ [] =
           s.2 ∙ ap (λ ts. printed_lines setting l.state ++ s.0 ∷ ts) none ∙ ap (λ t. printed_lines setting l.state ++ t ∷ []) (sym e.0)
           in
@@ -202,7 +202,7 @@ module _ (setting : Setting) (sound : IsSound setting.schema) (valid : IsValid s
   pub printed-first : (front : List (List ℕ)) (done : List Choice) (last : RunState) → HasLimit setting → played setting done (beginning_of setting) ≡ Some last → ArePrinted setting last front → AreFirstLines setting front
   printed-first front done last limit plays (inl h) =
       let e : Ends setting last = cases_end setting done last sound valid limit plays in
-      let whole_plays : played setting (done ++ e.more) (beginning_of setting) ≡ Some e.last = plays-behind setting done e.more (beginning_of setting) last e.last plays e.plays in
+      let whole_plays : played setting (done ++ e.more) (beginning_of setting) ≡ Some e.last = plays-following setting done e.more (beginning_of setting) last e.last plays e.plays in
       let added = adds-event setting e.more last e.last e.plays in
       let legal = whole-of (done ++ e.more) e.last e.ending whole_plays e.ends in
       let more : List (List ℕ) = line_texts schema last.lines added.0 in

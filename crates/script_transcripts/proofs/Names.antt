@@ -47,7 +47,7 @@ use Rattle.channel_model.specs.ValueActors.{nulled}
 use Rattle.channel_model.proofs.Known.{all-append}
 use Rattle.channel_model.proofs.Provided.{provided-gives, found-gives}
 use Rattle.schedules.specs.declared.stop.Stop.{Stop}
-use Rattle.script_runs.proofs.Leaves.{Leaves, behind_line, leaves-put, leaves-destroyed, leaves-closed, leaves-constructs, leaves-deletes}
+use Rattle.script_runs.proofs.Leaves.{Leaves, following_line, leaves-put, leaves-destroyed, leaves-closed, leaves-constructs, leaves-deletes}
 use Rattle.script_runs.proofs.Progressing.{first-is}
 use Rattle.script_runs.proofs.Shows.{Passes, Shows, ShowsPassing, built_lines, step-shows}
 use Rattle.script_runs.proofs.ValidBlocks.{handler-action, main-action}
@@ -58,7 +58,7 @@ use Rattle.script_steps.specs.Choices.{Setting, Choice, beginning_of, event_by, 
 use Rattle.script_steps.specs.NextEvent.{event_of, handler_action, return_of, by_handler, by_taking, by_main, by_top, by_flushing, or_else, is_stopped, next_event, context_of}
 use Rattle.script_steps.specs.Progress.{HandledRequest, Progress, after_line, no_progress, progress_of}
 use Rattle.script_transcripts.specs.Laws.{CaseNamesAreWords}
-use Rattle.transcript_laws.specs.Printed.{SaysWord, SayWords}
+use Rattle.transcripts.specs.Printed.{SaysWord, SayWords}
 
 -- The first line of a step
 
@@ -69,7 +69,7 @@ record Begins (e : End) (P : What → Type 0) (output : Output) : Type 0 where
   lines : output.lines ≡ line_at e.side first ∷ more
   is : P first
 
--- a change adds lines behind, if any
+-- a change only adds lines at the end
 abbrev Adds : Change → Type 0
 Adds change = (o : Output) → (more : List Line) × ((change o).lines ≡ o.lines ++ more)
 
@@ -105,7 +105,7 @@ adds-posted : (lazy : Bool) (m : Message) → Adds (send.posted_by lazy m)
 adds-posted true m o = ([], sym (append-nil o.lines))
 adds-posted false m o = ([], sym (append-nil o.lines))
 
-adds-sent : (row : MessageRow) (m : Message) (name : Option (List ℕ)) → Adds (behind_line row m name)
+adds-sent : (row : MessageRow) (m : Message) (name : Option (List ℕ)) → Adds (following_line row m name)
 adds-sent row m name =
     let counts : End → End = λ e. record e { sent = e.sent + 1; constructors_sent = counting row.kind e.constructors_sent } in
     let waits : End → End = λ e. record e { stack = send.wait_for row m ∷ e.stack } in
@@ -127,7 +127,7 @@ send-says true m vs = tt
 send-says false m vs = tt
 
 send-begins : (schema : Schema) (e : End) (row : MessageRow) (m : Message) (vs : Values) (name : Option (List ℕ)) (cause : Option SendRefusal) → Begins e SaysWord (send.sent_unless cause row m vs name (beginning e))
-send-begins schema e row m vs name None = begins e (send.send_line row m vs) (behind_line row m name) (send-says (is_sync_row row) m vs) (adds-sent row m name)
+send-begins schema e row m vs name None = begins e (send.send_line row m vs) (following_line row m name) (send-says (is_sync_row row) m vs) (adds-sent row m name)
 send-begins schema e row m vs name (Some cause) = record { first = what.RefusedSend cause row.number; more = []; lines = refl; is = tt }
 
 refused-says : (cause : SendRefusal) (vs : Option Values) → SaysWord (answering.refused_line cause vs)

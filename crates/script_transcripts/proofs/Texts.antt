@@ -1,4 +1,4 @@
--- What the lines of transcripts tell, all together.
+-- What all the lines of transcripts show together.
 use Rattle.std.proofs.Common.{◌≡◌, ℕ, List, [], ◌++◌, Some, sym, ap, ◌∙◌}
 use Rattle.std.specs.List.{filter_map}
 use Rattle.std.proofs.lemmas.List.{append-nil}
@@ -13,10 +13,10 @@ use Rattle.script_runs.specs.Replays.{printed_lines}
 use Rattle.script_runs.specs.Told.{choice_told}
 use Rattle.script_runs.proofs.TextChoices.{texts-choices}
 use Rattle.script_transcripts.proofs.Names.{case_names_are_words}
-use Rattle.transcript_laws.specs.TextLines.{text_lines}
-use Rattle.transcript_laws.proofs.Lines.{transcripts_are_lines}
+use Rattle.transcripts.specs.TextLines.{text_lines}
+use Rattle.transcripts.proofs.Lines.{transcripts_are_lines}
 
--- the lines of what is printed, and then those of what stands behind
+-- the lines of what is printed, and then those of what follows
 pub transcript-lines : (setting : Setting) (choices : List Choice) (state : RunState) (rest : List ℕ) → IsSound setting.schema → IsValid setting.schema setting.script → played setting choices (beginning_of setting) ≡ Some state
     → text_lines (transcript_text setting.schema state.lines ++ rest) ≡ printed_lines setting state ++ text_lines rest
 transcript-lines setting choices state rest sound valid plays = transcripts_are_lines setting.schema state.lines rest sound (case_names_are_words setting choices state valid plays)

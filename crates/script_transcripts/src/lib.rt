@@ -1,4 +1,5 @@
-//! What the transcript of a script's run tells of it (docs/transcripts.md): which choices made it. No function that runs.
+//! What the transcript of a script's run shows of the run (docs/transcripts.md): which choices made it.
+//! No function here runs.
 #![tactic(auto)]
 
 mod laws;

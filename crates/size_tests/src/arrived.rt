@@ -1,13 +1,13 @@
 //! Many arrived items, of two classes and on many routes.
 use ipdl_base::{Body, Compress, Level, Message, Side, Values};
-use pending_queue::{Holding, Item, Pending};
+use pending_queue::{DeferralContext, Item, Pending};
 use std::alloc::Global;
 use std::test::Fail;
 
-/// On how many routes the requests of one type arrive in turn.
+/// The number of routes on which the requests of one type arrive in turn.
 const ROUTES: i32 = 100000;
 
-/// An async request. Its number in the order of arrival stands as its `seq`.
+/// An async request. Its `seq` is its number in the order of arrival.
 fn request(number: u32, route: i32, seq: i32, level: Level) -> Item {
     Item::Message {
         message: Message {
@@ -23,16 +23,16 @@ fn request(number: u32, route: i32, seq: i32, level: Level) -> Item {
     }
 }
 
-fn awaiting(level: Option<Level>) -> Holding {
-    Holding {
+fn awaiting(level: Option<Level>) -> DeferralContext {
+    DeferralContext {
         side: Side::Parent,
         level,
         transaction: 0,
     }
 }
 
-/// Takes the first item, and tells whether it is the one of that `seq`.
-fn takes(pending: &mut Pending, holding: &Holding, wanted: i32) -> bool {
+/// Takes the first item, and returns whether it is the one of that `seq`.
+fn takes(pending: &mut Pending, holding: &DeferralContext, wanted: i32) -> bool {
     match pending.take_first(holding) {
         Some(Item::Message { message, .. }) => message.seq == wanted,
         Some(Item::Broken) | None => false,
@@ -51,7 +51,7 @@ fn push_level(pending: &mut Pending, level: Level, count: i32) -> bool {
     true
 }
 
-fn take_in_order(pending: &mut Pending, holding: &Holding, count: i32) -> bool {
+fn take_in_order(pending: &mut Pending, holding: &DeferralContext, count: i32) -> bool {
     for seq in 0..count {
         if !takes(pending, holding, seq) {
             return false;
@@ -95,7 +95,7 @@ fn push_turns(pending: &mut Pending, count: i32) -> bool {
     true
 }
 
-/// Whether an item made way for a later one of its type and route.
+/// Whether an item is replaced by a later one of its type and route.
 fn made_way(seq: i32, count: i32) -> bool {
     seq % 3 == 0 && seq / 3 < count / 3 - ROUTES
 }

@@ -1,5 +1,5 @@
 //! Tests of size: what an end keeps as linked nodes, with 300,000 and 600,000 of them in every shape. A list that is searched
-//! from its front, or closed up behind each that leaves, does not come to an end in the time of a test.
+//! from its beginning, or closed up after each that leaves, does not end in the time of a test.
 #![tactic(auto)]
 
 #[cfg(test)]

@@ -4,7 +4,7 @@ use promise_table::{Outcome, Promises, Settling};
 use std::alloc::Global;
 use std::test::Fail;
 
-/// How many actors have the promises, in turn.
+/// The number of actors that have the promises, in turn.
 const ACTORS: i32 = 1000;
 
 /// Makes the promises of the numbers up to a count. A number that was not made cannot be settled.

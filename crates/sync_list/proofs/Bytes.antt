@@ -21,29 +21,29 @@ blank_cases b h = elim (or_cases (eqb 32 b) _ h) [
   ]
 ]
 
--- a blank is no byte of a word
+-- a blank is not a byte of a word
 pub blank_no_word : (b : ℕ) → is_blank b ≡ true → is_word_byte b ≡ false
 blank_no_word b h = elim (blank_cases b h) [
   | inl e ↦ rw e refl
   | inr others ↦ elim others [ inl e ↦ rw e refl | inr two ↦ elim two [ inl e ↦ rw e refl | inr e ↦ rw e refl ] ]
 ]
 
--- what begins a word may stand in it
+-- a word may contain each byte that may begin it
 pub start_in_word : (b : ℕ) → is_word_start b ≡ true → is_word_byte b ≡ true
 start_in_word b h = or_left (is_word_start b) _ h
 
--- and is no blank
+-- a byte that begins a word is not a blank
 pub start_no_blank : (b : ℕ) → is_word_start b ≡ true → is_blank b ≡ false
 start_no_blank b h = elim (cases_Bool (is_blank b)) [
   | inl e ↦ absurd (true≢false (sym (start_in_word b h) ∙ blank_no_word b e))
   | inr e ↦ e
 ]
 
--- nor a byte with which no word begins
+-- nor is it a byte with which no word begins
 pub start_differs : (b n : ℕ) → is_word_start n ≡ false → is_word_start b ≡ true → eqb b n ≡ false
 start_differs b n fails h = ne_eqb b n (λ e. true≢false (sym h ∙ ap is_word_start e ∙ fails))
 
--- all bytes of a word may stand in one
+-- a word may contain all bytes of a word
 pub word_bytes : (word : List ℕ) → IsWord word → list_all is_word_byte word ≡ true
 word_bytes [] h = absurd (true≢false (sym h))
 word_bytes (b ∷ bs) h =

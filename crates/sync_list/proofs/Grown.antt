@@ -20,7 +20,7 @@ described-section p m (form ∷ forms) = rw (described-section p m forms) refl
 a_section : List ℕ → List ℕ → Bool → ℕ → Section
 a_section protocol message described line = record { protocol = protocol; message = message; described = described; line = line }
 
--- a section line gives one section more, which is not described yet
+-- a section line adds a section, which is not described yet
 pub sections-section : (n line : ℕ) (protocol message : List ℕ) (forms : List LineForm) → line ≡ n + length forms → sections_from n (forms ++ section protocol message ∷ []) ≡ sections_from n forms ++ record { protocol = protocol; message = message; described = false; line = line } ∷ []
 unfolding a_section
 sections-section n line p m [] e = let same : n ≡ line = omega (arith, e) in ap (λ k. a_section p m false k ∷ []) same
@@ -55,12 +55,12 @@ no_section_at n (section p m) described h = absurd (true≢false h)
 no_section_at n (value w b) described h = refl
 no_section_at n (more w) described h = refl
 
--- where no line is a section there is none
+-- if no line is a section, there are no sections
 pub sections-none : (n : ℕ) (forms : List LineForm) → list_any is_section forms ≡ false → sections_from n forms ≡ []
 sections-none n [] h = refl
 sections-none n (form ∷ forms) h = let both = or_parts (is_section form) (list_any is_section forms) h in rw (no_section_at n form (is_described forms) both.0) (sections-none (n + 1) forms both.1)
 
--- where one is there is one
+-- if some line is a section, there is a section
 pub sections-some : (n : ℕ) (forms : List LineForm) → list_any is_section forms ≡ true → (first : Section) × (others : List Section) × (sections_from n forms ≡ first ∷ others)
 unfolding a_section
 sections-some n [] h = absurd (true≢false (sym h))
@@ -70,7 +70,7 @@ sections-some n (section p m ∷ forms) h = (a_section p m (is_described forms) 
 sections-some n (value w b ∷ forms) h = sections-some (n + 1) forms h
 sections-some n (more w ∷ forms) h = sections-some (n + 1) forms h
 
--- another line marks the last section as described, if it describes it
+-- any other line marks the last section as described, if it describes the section
 pub sections-other : (form : LineForm) → is_section form ≡ false → (n : ℕ) (forms : List LineForm) → sections_from n (forms ++ form ∷ []) ≡ marked (describes form) (sections_from n forms)
 sections-other form none n [] = ap (λ l. l ++ []) (no_section_at n form false none)
 sections-other form none n (blank ∷ forms) = sections-other form none (n + 1) forms
@@ -95,7 +95,7 @@ sections-other form none n (section p m ∷ forms) =
           )
     ]
 
--- nothing is marked where a line describes nothing
+-- nothing is marked if a line describes nothing
 pub marked-false : (sections : List Section) → marked false sections ≡ sections
 unfolding a_section
 marked-false [] = refl

@@ -10,7 +10,7 @@ use Rattle.std.proofs.lemmas.Slice.Eq.{bytes_eq-Decides}
 use Rattle.findings.proofs.Elements.{any_more, any_before, any_here}
 use Rattle.sync_list.specs.Sets.{NamePair, same_name, same_pair, KeysAre, AddsKeys}
 
--- pairs are the same where both names are
+-- pairs are the same if both names are
 pub pair_decides : (x y : NamePair) → Decides (same_pair x y) ((x.0.now ≡ y.0.now) × (x.1.now ≡ y.1.now))
 pair_decides x y = Decides-and _ _ (bytes_eq-Decides x.0.now y.0.now) (bytes_eq-Decides x.1.now y.1.now)
 
@@ -25,7 +25,7 @@ set_old : (b x : Bool) → x ≡ true → cond b true x ≡ true
 set_old true x h = refl
 set_old false x h = h
 
--- one key more
+-- one more key
 pub Adds-insert : {K S : Type 0} (eq : K → K → Bool) (old new : HashSet K S) (key : K) (Holds : K → Type 0) → ((q : K) → contains eq new q ≡ cond (eq key q) true (contains eq old q)) → ((q : K) → Decides (eq key q) (Holds q)) → AddsKeys eq old new Holds
 Adds-insert eq old new key Holds put decides = record {
   exact = λ q. (
@@ -43,7 +43,7 @@ Adds-nothing {K} {S} eq old new Holds same none = record {
   );
 }
 
--- the same, said by another word
+-- the same, in other words
 pub Adds-as : {K S : Type 0} (eq : K → K → Bool) (old new : HashSet K S) (P Q : K → Type 0) → AddsKeys eq old new P → ((q : K) → P q → Q q) → ((q : K) → Q q → P q) → AddsKeys eq old new Q
 Adds-as eq old new P Q adds to back = record {
   exact = λ q. (
@@ -88,26 +88,26 @@ Keys-one_more eq P xs i d a b lt one two = record {
   );
 }
 
--- one pair more
+-- one more pair
 pub Adds-pair : {S : Type 0} (old new : HashSet NamePair S) (key : NamePair) (protocol message : List ℕ) → key.0.now ≡ protocol → key.1.now ≡ message → ((q : NamePair) → contains same_pair new q ≡ cond (same_pair key q) true (contains same_pair old q)) → AddsKeys same_pair old new (λ q. (protocol ≡ q.0.now) × (message ≡ q.1.now))
 Adds-pair old new key protocol message first second put =
     Adds-insert same_pair old new key _ put (λ q. Decides-like _ (λ h. (sym first ∙ h.0, sym second ∙ h.1)) (λ h. (first ∙ h.0, second ∙ h.1)) (pair_decides key q))
 
--- one name more
+-- one more name
 pub Adds-name : {S : Type 0} (old new : HashSet (Bor (List ℕ)) S) (key : Bor (List ℕ)) (name : List ℕ) → key.now ≡ name → ((q : Bor (List ℕ)) → contains same_name new q ≡ cond (same_name key q) true (contains same_name old q)) → AddsKeys same_name old new (λ q. name ≡ q.now)
 Adds-name old new key name is put =
     Adds-insert same_name old new key _ put (λ q. Decides-like _ (λ h. sym is ∙ h) (λ h. is ∙ h) (bytes_eq-Decides key.now q.now))
 
--- the keys of what an option holds
+-- the keys of the value of an option
 pub Adds-some : {K S X : Type 0} (eq : K → K → Bool) (old new : HashSet K S) (Holds : K → X → Type 0) (o : Option X) (x : X) → o ≡ Some x → AddsKeys eq old new (λ q. Holds q x) → AddsKeys eq old new (λ q. IsSomeAnd o (Holds q))
 Adds-some {K} {S} {X} eq old new Holds o x e adds = let P : Option X → Type 0 = λ o. AddsKeys eq old new (λ q. IsSomeAnd o (Holds q)) in subst P (sym e) adds
 
--- or of nothing
+-- or of no value
 pub Adds-no_some : {K S X : Type 0} (eq : K → K → Bool) (old new : HashSet K S) (Holds : K → X → Type 0) (o : Option X) → o ≡ None → new ≡ old → AddsKeys eq old new (λ q. IsSomeAnd o (Holds q))
 Adds-no_some {K} {S} {X} eq old new Holds o e same =
     Adds-nothing eq old new _ same (λ q h. let P : Option X → Type 0 = λ o. IsSomeAnd o (Holds q) in subst P e h)
 
--- what a look-up tells of a pair of names
+-- what a lookup means for a pair of names
 pub told_pair : {S : Type 0} (set : HashSet NamePair S) (Holds : List ℕ → List ℕ → Type 0) (key : NamePair) (protocol message : List ℕ) → key.0.now ≡ protocol → key.1.now ≡ message → KeysAre same_pair set (λ q. Holds q.0.now q.1.now) → (found : Bool) → found ≡ contains same_pair set key → Decides found (Holds protocol message)
 told_pair set Holds key protocol message first second are found is =
     let h = are.exact key in (
@@ -115,7 +115,7 @@ told_pair set Holds key protocol message first second are found is =
       λ t. is ∙ h.1 (let P : List ℕ → Type 0 = λ p. Holds p key.1.now in let Q : List ℕ → Type 0 = λ m. Holds protocol m in subst P (sym first) (subst Q (sym second) t)),
     )
 
--- and of a name
+-- the same for a name
 pub told_name : {S : Type 0} (set : HashSet (Bor (List ℕ)) S) (Holds : List ℕ → Type 0) (key : Bor (List ℕ)) (name : List ℕ) → key.now ≡ name → KeysAre same_name set (λ q. Holds q.now) → (found : Bool) → found ≡ contains same_name set key → Decides found (Holds name)
 told_name set Holds key name named are found is =
     let h = are.exact key in (λ t. subst Holds named (h.0 (sym is ∙ t)), λ t. is ∙ h.1 (subst Holds (sym named) t))

@@ -22,7 +22,7 @@ marked_set d (t ∷ []) (suc n) s e at = absurd (omega (arith, e))
 marked_set d (t ∷ u ∷ others) zero s e at = absurd (omega (arith, e))
 marked_set d (t ∷ u ∷ others) (suc n) s e at = ap (λ l. t ∷ l) (marked_set d (u ∷ others) n s (omega (arith, e)) at)
 
--- what a form of a value of a word is
+-- the forms of a line with a value of a word
 pub value_plain : (word : List ℕ) (filled : Bool) (form : LineForm) → IsValueOf word filled form → is_section form ≡ false
 value_plain word filled blank h = absurd h
 value_plain word filled comment h = absurd h
@@ -48,20 +48,20 @@ value_describes word filled (section p m) h = absurd h
 value_describes word filled (value w b) h = ap (λ x. bytes_eq x description && not (list_all is_blank b)) h.0 ∙ ap (λ x. bytes_eq word description && x) (sym h.1)
 value_describes word filled (more w) h = with_true (bytes_eq w description) ∙ ap (λ x. bytes_eq x description && true) h.0 ∙ ap (λ x. bytes_eq word description && x) (sym h.1)
 
--- the sections behind a line that is no section
-pub sections_behind : (forms : List LineForm) (form : LineForm) (old new : List Section) (d : Bool) → is_section form ≡ false → describes form ≡ d → old ≡ sections_from 1 forms → new ≡ marked d old → new ≡ sections_from 1 (forms ++ form ∷ [])
-sections_behind forms form old new d plain same before marks =
+-- the sections after a line that is not a section
+pub sections_after : (forms : List LineForm) (form : LineForm) (old new : List Section) (d : Bool) → is_section form ≡ false → describes form ≡ d → old ≡ sections_from 1 forms → new ≡ marked d old → new ≡ sections_from 1 (forms ++ form ∷ [])
+sections_after forms form old new d plain same before marks =
     marks ∙ ap (marked d) before ∙ ap (λ b. marked b (sections_from 1 forms)) (sym same) ∙ sym (sections-other form plain 1 forms)
 
 pub sections_quiet : (forms : List LineForm) (form : LineForm) (old : List Section) → is_section form ≡ false → describes form ≡ false → old ≡ sections_from 1 forms → old ≡ sections_from 1 (forms ++ form ∷ [])
-sections_quiet forms form old plain quiet before = sections_behind forms form old old false plain quiet before (sym (marked-false old))
+sections_quiet forms form old plain quiet before = sections_after forms form old old false plain quiet before (sym (marked-false old))
 
 no_section : (form : LineForm) (p m : List ℕ) → is_section form ≡ false → ¬ (form ≡ section p m)
 no_section form p m plain e = true≢false (sym (ap is_section e) ∙ plain)
 
--- the names behind a line that is no section
-pub seen_behind : {S : Type 0} (set : HashSet NamePair S) (forms : List LineForm) (form : LineForm) → is_section form ≡ false → KeysAre same_pair set (λ pair. Contains forms (section pair.0.now pair.1.now)) → KeysAre same_pair set (λ pair. Contains (forms ++ form ∷ []) (section pair.0.now pair.1.now))
-seen_behind set forms form plain seen = record {
+-- the names after a line that is not a section
+pub seen_after : {S : Type 0} (set : HashSet NamePair S) (forms : List LineForm) (form : LineForm) → is_section form ≡ false → KeysAre same_pair set (λ pair. Contains forms (section pair.0.now pair.1.now)) → KeysAre same_pair set (λ pair. Contains (forms ++ form ∷ []) (section pair.0.now pair.1.now))
+seen_after set forms form plain seen = record {
   exact = λ q. (
     λ h. Contains-append_left forms (form ∷ []) (section q.0.now q.1.now) ((seen.exact q).0 h),
     λ h. elim (Contains-push_cases forms form (section q.0.now q.1.now) h) [
@@ -71,7 +71,7 @@ seen_behind set forms form plain seen = record {
   );
 }
 
--- and behind a section line
+-- and after a section line
 pub seen_section : {S : Type 0} (old new : HashSet NamePair S) (forms : List LineForm) (protocol message : List ℕ) → KeysAre same_pair old (λ pair. Contains forms (section pair.0.now pair.1.now)) → AddsKeys same_pair old new (λ q. (protocol ≡ q.0.now) × (message ≡ q.1.now)) → KeysAre same_pair new (λ pair. Contains (forms ++ section protocol message ∷ []) (section pair.0.now pair.1.now))
 seen_section old new forms protocol message seen adds = record {
   exact = λ q. (
@@ -89,6 +89,6 @@ seen_section old new forms protocol message seen adds = record {
   );
 }
 
--- the sections behind a section line
+-- the sections after a section line
 pub sections_begun : (forms : List LineForm) (old : List Section) (p m protocol message : List ℕ) (number : ℕ) → p ≡ protocol → m ≡ message → old ≡ sections_from 1 forms → length forms + 1 ≡ number → old ++ record { protocol = p; message = m; described = false; line = number } ∷ [] ≡ sections_from 1 (forms ++ section protocol message ∷ [])
 sections_begun forms old p m protocol message number first second before counted = rw (first, second, before) (sym (sections-section 1 number protocol message forms (omega (arith, counted))))

@@ -1,4 +1,4 @@
--- Each line has at most one form, which its first bytes tell.
+-- Each line has at most one form, which its first bytes determine.
 use Rattle.std.proofs.Common.{◌≡◌, ◌≢◌, ℕ, true, cond, eqb, ◌||◌, List, [], ◌∷◌, ◌++◌, Option, Some, None, drop, inl, inr, refl, sym, ap, ◌∙◌, arith}
 use Rattle.std.specs.Prelude.{slice_index}
 use Rattle.std.specs.List.{prefix_len}
@@ -19,7 +19,7 @@ form_tag (section protocol message) = 2
 form_tag (value word bytes) = 3
 form_tag (more word) = 4
 
--- and for each line, by its first byte that is not blank and by its first byte
+-- a tag for each line, by its first byte that is not blank and by its first byte
 abbrev mark_tag : ℕ → Option ℕ → ℕ
 mark_tag first None = 0
 mark_tag first (Some b) = cond (eqb b 35 || eqb b 59) 1 (cond (is_blank first) 4 (cond (eqb b 91) 2 3))
@@ -63,28 +63,28 @@ fits_tag before line (section protocol message) h = sym (section_tag line protoc
 fits_tag before line (value word bytes) h = sym (value_tag line word bytes h.0)
 fits_tag before line (more word) h = sym (indented_tag line h.0)
 
--- the names of a section line are told
+-- the names of a section line are determined
 pub one_section : (line protocol message protocol2 message2 : List ℕ) → IsSectionLine line protocol message → IsSectionLine line protocol2 message2 → (protocol ≡ protocol2) × (message ≡ message2)
 one_section line protocol message protocol2 message2 s t =
     let rest = drop 1 line in
     let one = section_head line protocol message rest _ _ s refl (split_of is_word_byte rest) in
     let two = section_head line protocol2 message2 rest _ _ t refl (split_of is_word_byte rest) in
-    let behind = drop 2 (drop (prefix_len is_word_byte rest) rest) in
-    let three = section_tail line protocol message behind _ _ s (ap (drop 2) one.1) (split_of is_word_byte behind) in
-    let four = section_tail line protocol2 message2 behind _ _ t (ap (drop 2) two.1) (split_of is_word_byte behind) in
+    let following = drop 2 (drop (prefix_len is_word_byte rest) rest) in
+    let three = section_tail line protocol message following _ _ s (ap (drop 2) one.1) (split_of is_word_byte following) in
+    let four = section_tail line protocol2 message2 following _ _ t (ap (drop 2) two.1) (split_of is_word_byte following) in
     (sym one.0 ∙ two.0, sym three.0 ∙ four.0)
 
--- so are the word and the value of a value line
+-- the same of the word and the value of a value line
 pub one_value : (line word bytes word2 bytes2 : List ℕ) → IsValueLine line word bytes → IsValueLine line word2 bytes2 → (word ≡ word2) × (bytes ≡ bytes2)
 one_value line word bytes word2 bytes2 v w =
     let one = value_head line word bytes _ _ v (split_of is_word_byte line) in
     let two = value_head line word2 bytes2 _ _ w (split_of is_word_byte line) in
-    let behind = drop (prefix_len is_word_byte line) line in
-    let three = value_tail line word bytes behind _ _ v one.1 (split_of is_blank behind) in
-    let four = value_tail line word2 bytes2 behind _ _ w two.1 (split_of is_blank behind) in
+    let following = drop (prefix_len is_word_byte line) line in
+    let three = value_tail line word bytes following _ _ v one.1 (split_of is_blank following) in
+    let four = value_tail line word2 bytes2 following _ _ w two.1 (split_of is_blank following) in
     (sym one.0 ∙ two.0, ap (drop 1) (sym three ∙ four))
 
--- behind the same lines a line has at most one form
+-- after the same lines a line has at most one form
 pub one_form : (before : List LineForm) (line : List ℕ) (a b : LineForm) → Fits before line a → Fits before line b → a ≡ b
 one_form before line blank blank x y = refl
 one_form before line comment comment x y = refl

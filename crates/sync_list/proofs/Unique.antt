@@ -42,7 +42,7 @@ none_bad done (first ∷ before) line after (f ∷ forms) (g ∷ all) x y bad =
     let regrouped : done ++ f ∷ forms ≡ (done ++ g ∷ []) ++ forms = ap (λ h. done ++ h ∷ forms) e ∙ sym (append_assoc done (g ∷ []) forms) in
     none_bad (done ++ g ∷ []) before line after forms all x.1 (subst P e y.1) (subst Q regrouped bad)
 
--- of two places in a list, what stands before the later one has the earlier one in it
+-- of two indices in a list, the elements before the later one include that at the earlier one
 reaches : (before : List (List ℕ)) (line : List ℕ) (after before2 : List (List ℕ)) (line2 : List ℕ) (after2 : List (List ℕ))
     → before ++ line ∷ after ≡ before2 ++ line2 ∷ after2 → length before < length before2 → (rest : List (List ℕ)) × (before2 ≡ before ++ line ∷ rest)
 reaches before line after [] line2 after2 e lt = absurd (omega (arith, lt))
@@ -76,12 +76,12 @@ never_both text list (Line n) x y =
     none_bad [] y.before y.line y.after y.forms x.forms (subst P y.lines x.each) y.each y.bad
 never_both text list NoMemory x y = y
 
--- what is read is the list that the text spells
+-- the list that is read is the one that the text spells
 pub only_list : (text : List ℕ) (r : Result (List Section) ListFault) → IfOk r (IsListOf text) → IfErr r (λ fault. (fault ≡ NoMemory) ⊎ IsFault text fault) → (list : List Section) → IsListOf text list → Gives r (Ok list)
 only_list text (Ok found) ok err list x = inr (ap Ok (one_list text found list ok x))
 only_list text (Err fault) ok err list x = elim err [ inl e ↦ inl (ap Err e) | inr h ↦ absurd (never_both text list fault x h) ]
 
--- and the fault is the one that it has
+-- the fault is the one that the text has
 pub only_fault : (text : List ℕ) (r : Result (List Section) ListFault) → IfOk r (IsListOf text) → IfErr r (λ fault. (fault ≡ NoMemory) ⊎ IsFault text fault) → (fault : ListFault) → IsFault text fault → Gives r (Err fault)
 only_fault text (Ok found) ok err fault x = absurd (never_both text found fault ok x)
 only_fault text (Err other) ok err fault x = elim err [ inl e ↦ inl (ap Err e) | inr h ↦ inr (ap Err (one_fault text other fault h x)) ]

@@ -1,4 +1,4 @@
--- Worked lists, and texts that are none.
+-- Worked lists, and texts that are not lists.
 use Rattle.std.proofs.Common.{◌≡◌, ℕ, true, false, List, [], ◌∷◌, inl, inr, refl, arith}
 use Rattle.std.specs.Prelude.{codes}
 use Rattle.std.proofs.lemmas.Bool.Decides.{not_from_Decides}
@@ -28,11 +28,11 @@ a_section = record {
 a_value : IsValueLine (codes "description =") description []
 a_value = record { is_word = refl; between = codes " "; blanks = refl; sign = 61; is_sign = inl refl; spelled = refl }
 
--- a line that goes on
+-- a line that continues a value
 goes_on : IsIndented (codes "  why")
 goes_on = record { begins = refl; no_blank_line = λ e. absurd (let x : ⊥ = cc in x); no_comment = λ h. elim h [ inl e ↦ absurd (let x : ⊥ = cc in x) | inr e ↦ absurd (let x : ⊥ = cc in x) ] }
 
--- a list of one section, which is described in a line that goes on
+-- a list of one section, which is described in a line that continues a value
 worked : IsListOf (codes "[PL::B] \r\ndescription =\n  why\n") (record { protocol = codes "PL"; message = codes "B"; described = true; line = 1 } ∷ [])
 worked = record {
   forms = section (codes "PL") (codes "B") ∷ value description [] ∷ more description ∷ blank ∷ [];
@@ -40,17 +40,17 @@ worked = record {
   sections = refl;
 }
 
--- an empty description is none, whatever goes on behind another word
+-- an empty description does not count, even if a value of another word continues
 undescribed : sections_from 1 (section (codes "P") (codes "M") ∷ value description (codes " ") ∷ value (codes "bug") [] ∷ more (codes "bug") ∷ []) ≡ record { protocol = codes "P"; message = codes "M"; described = false; line = 1 } ∷ []
 undescribed = refl
 
--- one of two descriptions will do
+-- one of two descriptions is enough
 one_of_two : sections_from 7 (section (codes "P") (codes "M") ∷ value description (codes " x") ∷ comment ∷ value description [] ∷ []) ≡ record { protocol = codes "P"; message = codes "M"; described = true; line = 7 } ∷ []
 one_of_two = refl
 
--- a line cannot go on behind a comment
-behind_a_comment : IsFirstBad (codes "[PL::B] \r\ndescription =\n #\n  why") 4
-behind_a_comment = record {
+-- a line after a comment cannot continue a value
+after_a_comment : IsFirstBad (codes "[PL::B] \r\ndescription =\n #\n  why") 4
+after_a_comment = record {
   before = codes "[PL::B] \r" ∷ codes "description =" ∷ codes " #" ∷ [];
   line = codes "  why";
   after = [];
@@ -61,7 +61,7 @@ behind_a_comment = record {
   counted = refl;
 }
 
--- nor is a section repeated
+-- a section cannot be repeated
 repeated : IsFirstBad (codes "[PL::B] \r\n[PL::B] \r") 2
 repeated = record {
   before = codes "[PL::B] \r" ∷ [];

@@ -8,13 +8,13 @@ use Rattle.sync_list.specs.declared.report.SectionBreach.{SectionBreach}
 use Rattle.sync_list.specs.declared.report.SectionBreach.TheVariants.{Async, Absent, Undescribed}
 use Rattle.sync_list.specs.Broken.{NamesAsync, NamesAbsent, HasNoDescription}
 
--- the rule
+-- the rule that is broken
 abbrev pub rule_of : SectionBreach → Rule
 rule_of Async = rule.LISTED_ASYNC
 rule_of Absent = rule.LISTED_ABSENT
 rule_of Undescribed = rule.NO_DESCRIPTION
 
--- the section breaks it
+-- the section breaks this rule
 abbrev pub Breaks : SectionBreach → List Entry → Section → Type 0
 Breaks Async program s = NamesAsync program s
 Breaks Absent program s = NamesAbsent program s

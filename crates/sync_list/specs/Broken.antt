@@ -1,4 +1,4 @@
--- The rules of the sync list, where a program and a list break them, and the report of both.
+-- The rules of the sync list, and the places at which a program and a list break them.
 use Rattle.std.specs.Prelude.{◌≡◌, ℕ, ◌⊎◌, List, length, IsTrue, IsSomeAnd}
 use Rattle.std.specs.List.{Any}
 use Rattle.ipdl_base.specs.Words.{short_name}
@@ -20,38 +20,38 @@ Lists list protocol message = Any (λ s. (s.protocol ≡ protocol) × (s.message
 abbrev pub SomeProtocol : (ProtocolDecl → Type 0) → List Entry → Type 0
 SomeProtocol Holds program = Any (λ e. IsSomeAnd e.unit.protocol Holds) program
 
--- the protocol is read: one of the program has this short name
+-- a protocol of the program has this short name
 abbrev pub IsRead : List Entry → List ℕ → Type 0
 IsRead program protocol = SomeProtocol (λ p. short_name p.full ≡ protocol) program
 
--- a read protocol of this short name has a message of these semantics and this name
+-- a protocol of the program with this short name has a message of these semantics and this name
 abbrev pub HasMessage : Semantics → List Entry → List ℕ → List ℕ → Type 0
 HasMessage semantics program protocol message =
     SomeProtocol (λ p. (short_name p.full ≡ protocol) × Any (λ m. (m.semantics ≡ semantics) × (m.name ≡ message)) p.messages) program
 
--- the sync message's name stands at this place, and the list has no section of its protocol and it
+-- the sync message's name is at this place, and the list has no section of the protocol and the message
 pub record IsUnlistedAt (list : List Section) (protocol : List ℕ) (place : Place) (m : MessageDecl) : Type 0 where
   pub sync : m.semantics ≡ Sync
   pub unlisted : ¬ Lists list protocol m.name
   pub here : m.place ≡ place
 
--- the place of a section: its line in the file behind those of the program
+-- the place of a section: its line in the file after those of the program
 abbrev pub section_place : List Entry → Section → Place
 section_place program s = record { file = length program; line = s.line; column = 1 }
 
--- a section of which this holds stands at this place
+-- a section with this property is at this place
 abbrev pub AtSection : (Section → Type 0) → List Entry → List Section → Place → Type 0
 AtSection Holds program list place = Any (λ s. Holds s × (section_place program s ≡ place)) list
 
--- S1: a sync message of a read protocol has no section
+-- S1: a sync message of a protocol of the program has no section
 abbrev pub IsUnlistedSync : List Entry → List Section → Place → Type 0
 IsUnlistedSync program list place = SomeProtocol (λ p. Any (IsUnlistedAt list (short_name p.full) place) p.messages) program
 
--- S2: a section names an async message of a read protocol
+-- S2: a section names an async message of a protocol of the program
 abbrev pub NamesAsync : List Entry → Section → Type 0
 NamesAsync program s = HasMessage Async program s.protocol s.message
 
--- S3: a section names a message that its protocol, which is read, lacks: it has none of the name, neither sync nor async
+-- S3: a section names a protocol of the program and a message that it lacks: it has no message of the name, sync or async
 pub record NamesAbsent (program : List Entry) (s : Section) : Type 0 where
   pub read : IsRead program s.protocol
   pub absent : (semantics : Semantics) → ¬ HasMessage semantics program s.protocol s.message

@@ -1,4 +1,4 @@
--- What is known of the protocols of a program.
+-- The sets of the names of a program.
 use Rattle.std.specs.Prelude.{List}
 use Rattle.ipdl_base.specs.declared.kinds.Semantics.TheVariants.{Async, Sync}
 use Rattle.ipdl_syntax.specs.declared.program.Entry.{Entry}

@@ -1,8 +1,8 @@
--- The sections of a list, when a line describes the last of them.
+-- The sections of a list after a line that may describe the last of them.
 use Rattle.std.specs.Prelude.{Bool, ◌||◌, List, [], ◌∷◌}
 use Rattle.sync_list.specs.declared.list.Section.{Section}
 
--- the sections, of which the last is described if it was or this is true
+-- the sections; the last one is described if it was or this is true
 abbrev pub marked : Bool → List Section → List Section
 marked filled [] = []
 marked filled (s ∷ []) = record s { described = s.described || filled } ∷ []

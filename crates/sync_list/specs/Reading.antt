@@ -10,12 +10,12 @@ use Rattle.sync_list.specs.Forms.{LineForm, section, value, more, open_word, Fit
 use Rattle.sync_list.specs.Lists.{sections_from}
 use Rattle.sync_list.specs.Sets.{same_pair, KeysAre}
 
--- the text is split behind its longest front whose bytes pass the test
+-- the text is split after its longest prefix whose bytes pass the test
 pub record IsSplit (test : ℕ → Bool) (text front rest : List ℕ) : Type 0 where
   pub front_is : front ≡ take_while test text
   pub rest_is : rest ≡ drop (prefix_len test text) text
 
--- the line has none of the forms of lines by themselves
+-- the line is of none of the kinds of single lines
 pub record IsOther (line : List ℕ) : Type 0 where
   pub no_blank_line : ¬ IsBlankLine line
   pub no_comment : ¬ IsComment line
@@ -23,7 +23,7 @@ pub record IsOther (line : List ℕ) : Type 0 where
   pub no_value : (word bytes : List ℕ) → ¬ IsValueLine line word bytes
   pub no_indented : ¬ IsIndented line
 
--- the line is this by itself
+-- the line is of this kind
 abbrev pub IsLine : List ℕ → ListLine → Type 0
 IsLine line kind.Blank = IsBlankLine line
 IsLine line kind.Comment = IsComment line
@@ -38,24 +38,24 @@ pub record HasRead (forms : List LineForm) (reader : ListReader) : Type 0 where
   pub seen : KeysAre same_pair reader.seen (λ pair. Contains forms (section pair.0.now pair.1.now))
   pub unfinished : option_copied reader.unfinished ≡ open_word forms
 
--- behind lines of these forms the reader has read this line too
+-- after lines of these forms the reader has read this line too
 pub record ReadsLine (forms : List LineForm) (line : List ℕ) (reader : ListReader) : Type 0 where
   pub form : LineForm
   pub fits : Fits forms line form
-  pub behind : HasRead (forms ++ form ∷ []) reader
+  pub following : HasRead (forms ++ form ∷ []) reader
 
--- behind lines of these forms the reader has read the section line of these names, which none of them is
+-- after lines of these forms the reader has read the section line of these names, which is not among them
 pub record Begins (forms : List LineForm) (protocol message : List ℕ) (reader : ListReader) : Type 0 where
   pub new : ¬ Contains forms (section protocol message)
-  pub behind : HasRead (forms ++ section protocol message ∷ []) reader
+  pub following : HasRead (forms ++ section protocol message ∷ []) reader
 
--- the form is that of a line with a value of the word, or of one that goes on with it; it is filled if the value has a
--- byte there that is not blank
+-- the form is that of a line with a value of the word, or of a line that continues it; `filled` is whether this
+-- line's part of the value has a byte that is not blank
 abbrev pub IsValueOf : List ℕ → Bool → LineForm → Type 0
 IsValueOf word filled (value other bytes) = (other ≡ word) × (filled ≡ not (list_all is_blank bytes))
 IsValueOf word filled (more other) = (other ≡ word) × (filled ≡ true)
 IsValueOf word filled _ = ⊥
 
--- behind lines of these forms the line has no form
+-- after lines of these forms the line has no form
 abbrev pub IsBad : List LineForm → List ℕ → Type 0
 IsBad forms line = (form : LineForm) → ¬ Fits forms line form

@@ -1,3 +1,5 @@
+//! The law of the format of sync lists.
+
 ghost use Rattle.sync_list.specs.Laws.{OneList, OneFault, NeverBoth};
 
 /// The law of the format: a text spells at most one list, has at most one fault, and never both.

@@ -1,5 +1,5 @@
-//! The sync list: which messages a program may send sync. What its text spells, and the rules that
-//! a program and a list break (docs/sync_list.md).
+//! The sync list, which lists the messages that may be sync: reads its text, and adds the findings
+//! of the rules that a program and a list break (docs/sync_list.md).
 #![tactic(auto)]
 
 mod laws;

@@ -1,3 +1,5 @@
+//! The kind of a single line of a sync list.
+
 ghost use Rattle.std.specs.Prelude.{◌≡◌, ◌↔◌, ◌⊎◌, ℕ, List, IsTrue, IfSome, IfNone, not, position};
 ghost use Rattle.std.specs.List.{list_all};
 ghost use Rattle.ipdl_base.specs.Words.{is_word, is_word_start, is_word_byte};
@@ -7,16 +9,19 @@ ghost use Rattle.sync_list.specs.Reading.{IsSplit, IsLine};
 
 use ipdl_lex::is_reserved;
 
-/// What a line is by itself.
+/// The kind of a line of a sync list, by its own bytes alone.
 pub enum ListLine<'a> {
+    /// A line of blanks, or an empty line.
     Blank,
+    /// A comment.
     Comment,
-    /// The names of its protocol and its message.
+    /// A section line, with the names of its protocol and its message.
     Section(&'a [u8], &'a [u8]),
-    /// Its word and its value.
+    /// A value line, with its word and its value.
     Value(&'a [u8], &'a [u8]),
-    /// It can go on with a value.
+    /// An indented line, which can continue a value.
     Indented,
+    /// Any other line.
     Other,
 }
 
@@ -38,14 +43,14 @@ fn is_word_byte(b: u8) -> bool
     is_word_start(b) || b.is_ascii_digit()
 }
 
-/// Whether each byte is blank.
+/// Returns whether each byte is blank.
 pub fn are_blanks(bytes: &[u8]) -> bool
     ensures { result ≡ list_all is_blank bytes.now }
 {
     bytes.iter().all(|b| is_blank(*b))
 }
 
-/// Whether each byte may stand in a word.
+/// Returns whether a word may contain each byte.
 fn are_word_bytes(bytes: &[u8]) -> bool
     ensures { result ≡ list_all is_word_byte bytes.now }
 {
@@ -67,42 +72,42 @@ fn is_identifier(bytes: &[u8]) -> bool
     is_word(bytes) && !is_reserved(bytes)
 }
 
-/// The first byte that is not blank.
+/// Returns the first byte that is not blank, or `None`.
 fn first_mark(line: &[u8]) -> Option<u8>
     ensures { result ≡ first_mark line.now }
 {
     line.iter().copied().find(|b| !is_blank(*b))
 }
 
-/// The index of the first byte that may not stand in a word.
+/// Returns the index of the first byte that no word may contain, or `None`.
 fn word_end(text: &[u8]) -> Option<usize>
     ensures { result ≡ position (λ b. not (is_word_byte b)) text.now }
 {
     text.iter().position(|b| !is_word_byte(*b))
 }
 
-/// The index of the first byte that is not blank.
+/// Returns the index of the first byte that is not blank, or `None`.
 fn blanks_end(text: &[u8]) -> Option<usize>
     ensures { result ≡ position (λ b. not (is_blank b)) text.now }
 {
     text.iter().position(|b| !is_blank(*b))
 }
 
-/// The bytes of a word that the text begins with, and the rest.
+/// Splits a text after the word bytes that it begins with.
 fn split_word(text: &[u8]) -> (&[u8], &[u8])
     ensures { IsSplit is_word_byte text.now result.0.now result.1.now }
 {
     text.split_at(word_end(text).unwrap_or(text.len()))
 }
 
-/// The blanks that the text begins with, and the rest.
+/// Splits a text after the blanks that it begins with.
 fn split_blanks(text: &[u8]) -> (&[u8], &[u8])
     ensures { IsSplit is_blank text.now result.0.now result.1.now }
 {
     text.split_at(blanks_end(text).unwrap_or(text.len()))
 }
 
-/// The names of the protocol and the message of a section line.
+/// Returns the names of the protocol and the message of a section line, or `None` for any other line.
 fn section_line(line: &[u8]) -> Option<(&[u8], &[u8])>
     ensures some { IfSome result (λ names. IsSectionLine line.now names.0.now names.1.now) }
     ensures none { IfNone result ((protocol message : List ℕ) → ¬ IsSectionLine line.now protocol message) }
@@ -119,14 +124,14 @@ fn section_line(line: &[u8]) -> Option<(&[u8], &[u8])>
     }
 }
 
-/// Whether the byte stands between a word and its value.
+/// Returns whether the byte may separate a word and its value.
 fn is_sign(b: u8) -> bool
     ensures { IsTrue result ↔ ((b ≡ 61) ⊎ (b ≡ 58)) }
 {
     b == b'=' || b == b':'
 }
 
-/// The word and the value of a value line.
+/// Returns the word and the value of a value line, or `None` for any other line.
 fn value_line(line: &[u8]) -> Option<(&[u8], &[u8])>
     ensures some { IfSome result (λ parts. IsValueLine line.now parts.0.now parts.1.now) }
     ensures none { IfNone result ((word value : List ℕ) → ¬ IsValueLine line.now word value) }
@@ -141,7 +146,7 @@ fn value_line(line: &[u8]) -> Option<(&[u8], &[u8])>
     }
 }
 
-/// What a line is by itself.
+/// Returns the kind of a line of a sync list, by its own bytes alone.
 pub fn line_of(line: &[u8]) -> ListLine<'_>
     ensures { IsLine line.now result }
 {

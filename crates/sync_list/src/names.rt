@@ -1,3 +1,5 @@
+//! The names of a program, by which the sections of a sync list are looked up.
+
 ghost use Rattle.std.specs.Prelude.{◌≡◌, ◌↔◌, List, IfOk, OnOk, IsTrue};
 ghost use Rattle.std.specs.List.{Any};
 ghost use Rattle.ipdl_base.specs.declared.kinds.Semantics.TheVariants.{Sync};
@@ -14,15 +16,18 @@ use std::collections::HashSet;
 /// The short name of a protocol and the name of a message.
 pub type MessagePair<'a> = (&'a [u8], &'a [u8]);
 
-/// What the protocols of a program are called, and which messages they have.
+/// The names of the protocols of a program and of their messages.
 #[derive(Drop)]
 pub struct ProgramNames<'a> {
+    /// The short names of the protocols.
     pub protocols: HashSet<&'a [u8]>,
+    /// The sync messages.
     pub syncs: HashSet<MessagePair<'a>>,
+    /// The async messages.
     pub asyncs: HashSet<MessagePair<'a>>,
 }
 
-/// The names of a section.
+/// Returns the names of a section.
 fn names_of(section: &Section) -> MessagePair<'_>
     ensures protocol { result.0.now ≡ section.now.protocol }
     ensures message { result.1.now ≡ section.now.message }
@@ -30,7 +35,7 @@ fn names_of(section: &Section) -> MessagePair<'_>
     (section.protocol.as_slice(), section.message.as_slice())
 }
 
-/// The names of the sections of a list.
+/// Returns the names of the sections of a list.
 pub fn listed(alloc: Global, list: &[Section]) -> Result<HashSet<MessagePair<'_>>, AllocError>
     ensures { IfOk result (λ set. KeysAre same_pair set (λ pair. Lists list.now pair.0.now pair.1.now)) }
 {
@@ -41,7 +46,7 @@ pub fn listed(alloc: Global, list: &[Section]) -> Result<HashSet<MessagePair<'_>
     Ok(names)
 }
 
-/// The short names of the protocols of a program.
+/// Returns the short names of the protocols of a program.
 fn protocols_of(alloc: Global, program: &[Entry]) -> Result<HashSet<&[u8]>, AllocError>
     ensures { IfOk result (λ set. KeysAre same_name set (λ name. IsRead program.now name.now)) }
 {
@@ -54,7 +59,7 @@ fn protocols_of(alloc: Global, program: &[Entry]) -> Result<HashSet<&[u8]>, Allo
     Ok(names)
 }
 
-/// Adds the messages of these semantics of the protocol of this short name.
+/// Adds those messages of the protocol of this short name that have these semantics.
 fn add_messages<'a>(
     protocol: &'a [u8],
     messages: &'a [MessageDecl],
@@ -72,7 +77,7 @@ fn add_messages<'a>(
     Ok(())
 }
 
-/// The messages of these semantics of the protocols of a program.
+/// Returns the messages of these semantics of the protocols of a program.
 fn messages_of(
     alloc: Global,
     program: &[Entry],
@@ -93,7 +98,7 @@ fn messages_of(
 impl<'a> ProgramNames<'a> {
     ghost use Rattle.sync_list.specs.Knowing.{Knows};
 
-    /// What is known of a program.
+    /// Collects the names of a program.
     pub fn of(alloc: Global, program: &'a [Entry]) -> Result<ProgramNames<'a>, AllocError>
         ensures { IfOk result (Knows program.now) }
     {
@@ -104,28 +109,29 @@ impl<'a> ProgramNames<'a> {
         })
     }
 
-    /// Whether the section names a protocol of the program.
+    /// Returns whether the section names a protocol of the program.
     fn is_read(&self, section: &Section) -> bool
         ensures { (program : List Entry) → Knows program self.now → IsTrue result ↔ IsRead program section.now.protocol }
     {
         self.protocols.contains(&section.protocol.as_slice())
     }
 
-    /// Whether the section names a sync message.
+    /// Returns whether the section names a sync message.
     fn names_sync(&self, section: &Section) -> bool
         ensures { (program : List Entry) → Knows program self.now → IsTrue result ↔ HasMessage Sync program section.now.protocol section.now.message }
     {
         self.syncs.contains(&names_of(section))
     }
 
-    /// Whether the section names an async message.
+    /// Returns whether the section names an async message.
     pub fn names_async(&self, section: &Section) -> bool
         ensures { (program : List Entry) → Knows program self.now → IsTrue result ↔ NamesAsync program section.now }
     {
         self.asyncs.contains(&names_of(section))
     }
 
-    /// Whether the section names a message that its protocol, which is read, lacks.
+    /// Returns whether the section names a protocol of the program and a message that this protocol
+    /// lacks.
     pub fn names_absent(&self, section: &Section) -> bool
         ensures { (program : List Entry) → Knows program self.now → IsTrue result ↔ NamesAbsent program section.now }
     {

@@ -1,3 +1,5 @@
+//! Reads the text of a sync list, line by line.
+
 ghost use Rattle.std.specs.Prelude.{◌≡◌, false, ℕ, ◌+◌, ◌≤◌, ◌⊎◌, ◌&&◌, List, [], ◌∷◌, ◌++◌, length};
 ghost use Rattle.std.specs.Prelude.{Ok, Err, IfOk, IfErr, OnOk};
 ghost use Rattle.std.specs.List.{Contains};
@@ -17,14 +19,15 @@ use ipdl_base::{Items, Name};
 use std::alloc::{AllocError, Global};
 use std::collections::HashSet;
 
-/// Whether a value of this word, which is filled or not, is a description that is not empty.
+/// Returns whether a value of this word is a description that is not empty. `filled` is whether the
+/// value has a byte that is not blank.
 fn describes(word: &[u8], filled: bool) -> bool
     ensures { result ≡ (bytes_eq word.now description && filled) }
 {
     filled && word == b"description".as_slice()
 }
 
-/// Marks the last section as described, if this is true.
+/// Marks the last section as described if `described` is true.
 fn mark_last(sections: &mut Vec<Section>, described: bool)
     ensures { sections.new.items ≡ marked described sections.old.items }
 {
@@ -33,7 +36,7 @@ fn mark_last(sections: &mut Vec<Section>, described: bool)
     }
 }
 
-/// The section of these names that begins at the line of this number.
+/// Returns a section of these names that begins at the line of this number.
 fn new_section(
     alloc: Global,
     protocol: &[u8],
@@ -50,20 +53,21 @@ fn new_section(
     })
 }
 
-/// What has been read of a sync list.
+/// The state of a reading of a sync list.
 #[derive(Drop)]
 pub struct ListReader<'a> {
-    /// The sections so far.
+    /// The sections that have been read.
     pub sections: Vec<Section>,
-    /// Their names.
+    /// The names of these sections.
     pub seen: HashSet<MessagePair<'a>>,
-    /// The word with whose value the next line can go on.
+    /// The word whose value the next line can continue, or `None`.
     pub unfinished: Option<&'a [u8]>,
 }
 
 impl<'a> ListReader<'a> {
     ghost use Rattle.sync_list.specs.Reading.{HasRead, ReadsLine, Begins, IsValueOf, IsBad};
 
+    /// Begins a reading with no lines.
     fn new(alloc: Global) -> ListReader<'a>
         ensures { HasRead [] result }
     {
@@ -99,8 +103,8 @@ impl<'a> ListReader<'a> {
         Ok(())
     }
 
-    /// Takes a line with a value of the word, or one that goes on with it; it is filled if the value
-    /// has a byte there that is not blank.
+    /// Takes a line that has a value of the word or continues it. `filled` is whether this line's
+    /// part of the value has a byte that is not blank.
     fn take_value(&mut self, word: &'a [u8], filled: bool)
         ensures { (forms : List LineForm) (form : LineForm) → HasRead forms self.old → IsValueOf word.now filled form
             → HasRead (forms ++ form ∷ []) self.new }
@@ -140,7 +144,7 @@ impl<'a> ListReader<'a> {
     }
 }
 
-/// The sync list that a text spells, or the first line that is not of the format.
+/// Reads the text of a sync list, or fails at the first line that is not of the format.
 fn read_lines(alloc: Global, text: &[u8]) -> Result<SyncList, ListFault>
     requires { length text.now ≤ MOST_BYTES }
     ensures list { IfOk result (IsListOf text.now) }
@@ -155,14 +159,14 @@ fn read_lines(alloc: Global, text: &[u8]) -> Result<SyncList, ListFault>
     Ok(Items::from_vec(reader.sections))
 }
 
-/// The sync list that a text spells (docs/sync_list.md). `Line` gives the first line that is not of
-/// the format. Takes time in proportion to the text.
+/// Reads the text of a sync list (docs/sync_list.md). `ListFault::Line` is the first line that is
+/// not of the format. Takes time in proportion to the text.
 pub fn read_list(alloc: Global, text: &[u8]) -> Result<SyncList, ListFault>
     requires { length text.now ≤ MOST_BYTES }
     ensures list { IfOk result (IsListOf text.now) }
     ensures fault { IfErr result (λ fault. (fault ≡ NoMemory) ⊎ IsFault text.now fault) }
 
-    // A text that spells a list or has a fault gets these, unless memory runs out.
+    // The result is the text's list or its fault, unless memory runs out.
     ensures only_list { (list : List Section) → IsListOf text.now list → Gives result (Ok list) }
     ensures only_fault { (fault : ListFault) → IsFault text.now fault → Gives result (Err fault) }
 {

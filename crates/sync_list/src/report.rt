@@ -1,3 +1,5 @@
+//! Adds the findings of the rules that a program and a sync list break.
+
 ghost use Rattle.std.specs.Prelude.{◌≡◌, ◌≤◌, ◌↔◌, List, length, OnOk, IsTrue};
 ghost use Rattle.std.specs.List.{Any};
 ghost use Rattle.ipdl_base.specs.declared.kinds.Semantics.TheVariants.{Sync};
@@ -20,7 +22,7 @@ use std::collections::HashSet;
 /// The column at which a section begins.
 const FIRST: u32 = 1;
 
-/// What a section does against a rule.
+/// A rule that a section can break, by what the section does.
 #[derive(Clone, Copy)]
 pub enum SectionBreach {
     /// It names an async message.
@@ -32,7 +34,7 @@ pub enum SectionBreach {
 }
 
 impl SectionBreach {
-    /// The rule that is broken.
+    /// Returns the rule that is broken.
     fn rule(self) -> Rule
         ensures { result ≡ rule_of self }
     {
@@ -44,7 +46,7 @@ impl SectionBreach {
     }
 }
 
-/// The finding at a section of the list, which is the file of this number.
+/// Returns a finding at a section of the list. The list is the file of this number.
 fn at_section(file: u32, section: &Section, breach: SectionBreach) -> Finding
     ensures { result ≡ record { place = record { file = file; line = section.now.line; column = 1 }; rule = rule_of breach } }
 {
@@ -58,8 +60,8 @@ fn at_section(file: u32, section: &Section, breach: SectionBreach) -> Finding
     }
 }
 
-/// Whether the message of the protocol of this short name is sync and not among the names of the
-/// list.
+/// Returns whether the message of the protocol of this short name is sync and not among the names
+/// of the list.
 fn is_unlisted(protocol: &[u8], message: &MessageDecl, names: &HashSet<MessagePair<'_>>) -> bool
     ensures { (list : List Section) → KeysAre same_pair names.now (λ pair. Lists list pair.0.now pair.1.now)
         → IsTrue result ↔ ((message.now.semantics ≡ Sync) × ¬ Lists list protocol.now message.now.name) }
@@ -109,7 +111,7 @@ fn add_unlisted(
     Ok(())
 }
 
-/// Whether the section breaks this rule of sections.
+/// Returns whether the section breaks this rule of sections.
 fn breaks(known: &ProgramNames, section: &Section, breach: SectionBreach) -> bool
     ensures { (program : List Entry) → Knows program known.now → IsTrue result ↔ Breaks breach program section.now }
 {
@@ -139,9 +141,9 @@ fn add_breaches(
     Ok(())
 }
 
-/// Adds the findings of the rules S1 to S4 that a program and a sync list break (docs/sync_list.md),
-/// in some order. The list counts as the file behind those of the program. Takes time in proportion
-/// to both. The only error is want of memory.
+/// Adds the findings of the rules S1 to S4 that a program and a sync list break
+/// (docs/sync_list.md), in some order. The list counts as the file after those of the program.
+/// Takes time in proportion to both. Fails only if memory runs out.
 pub fn add_of_list(
     alloc: Global,
     program: &Program,

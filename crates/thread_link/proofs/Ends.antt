@@ -1,4 +1,4 @@
--- The sides part, and come together for good.
+-- The sides are split, and joined for good.
 use Rattle.std.proofs.Common.{◌≡◌, ◌≢◌, ◌∙◌, ℕ, List, [], ◌∷◌, ◌++◌, inl, inr, sym, refl, ap, subst, true, false, true≢false, Option, Some}
 use mathlib.Core.Option.{some, some-injective}
 use lib.ListN.{get_elem?, set}
@@ -18,7 +18,7 @@ use Rattle.thread_link.specs.Steps.{child_part, parent_part, spent_view, whole_v
 use Rattle.world_core.specs.declared.link.Link.{Link}
 use Rattle.world_core.specs.Halves.{IsHome}
 
--- the slot of a state that differs from another in its views alone
+-- the slot of a state that differs from another only in its views
 same-slot : (setting : Setting) (s t : State (Option SharedLink) SeatView) (law : IsLawful setting s) → t.homes ≡ s.homes → law.holder ≡ 0 → HasLink setting t law.all
 same-slot setting s t law homes e =
     let there = law.free e in
@@ -92,7 +92,7 @@ parts setting id v idle s law at = record {
         gone k u there is new =
             elim (at_set s.views id k (parent_part v) u there) [ inl h ↦ clash is (ap (has sides.Child) (sym h.1)) | inr h ↦ h.0 (law.apart sides.Child k id u v h.1 at is new) ]
 
--- both sides come together
+-- both sides are joined
 pub wholes : (setting : Setting) (id : ℕ) (v : SeatView) (place : ℕ) (w : SeatView) → IsOf sides.Parent v → IsOf sides.Child w → v.holds ≡ false → w.holds ≡ false → Joins (IsLawful setting) id v place w (whole_view v w) spent_view
 wholes setting id v place w is is' idle idle' s law at far there = record {
   all = law.all;
@@ -131,7 +131,7 @@ wholes setting id v place w is is' idle idle' s law at far there = record {
     each P none new old =
         each-set P (set s.views id (whole_view v w)) place spent_view none (λ j u apart at_j. elim (at_set s.views id j (whole_view v w) u at_j) [ inl h ↦ subst P h.1 new | inr h ↦ old j u apart h.0 h.1 ])
 
-    -- whoever has a side then is the joined view
+    -- the view that has a side then is the joined one
     here : (d : Side) (j : ℕ) (u : SeatView) → get_elem? (set (set s.views id (whole_view v w)) place spent_view) j ≡ some u → has d u ≡ true → j ≡ id
     here d j u a h = elim (at_set (set s.views id (whole_view v w)) place j spent_view u a) [
       | inl x ↦ absurd (nobody d (ap (has d) x.1 ∙ h))
@@ -142,7 +142,7 @@ wholes setting id v place w is is' idle idle' s law at far there = record {
         strange sides.Child apart near was h = near (law.apart sides.Child j place u w was before h is'.0)
         strange sides.Parent apart near was h = apart (law.apart sides.Parent j id u v was at h is.0)
 
--- What lies in the slot at the end: a link that is home, of which each side has seen a front.
+-- What is in the slot at the end: a link that is at home in the run, of which each side has seen a prefix.
 pub record IsEnd (setting : Setting) (v w : SeatView) (link : Link) : Type 0 where
   pub home : IsHome setting link
   pub parent_seen : HasSeen sides.Parent v.parent_seen link.lines
@@ -184,7 +184,7 @@ closes setting id v w m words slots taken is end at =
     let e = ends setting id v w words slots (subst (λ (u : SeatView). Final (Seen (IsLawful setting) id u) words slots) is end) in
     (e.0, some-injective taken (Some e.0) (sym at ∙ e.1), e.2)
 
--- the same of a link that was found there
+-- the same for a link that was found there
 pub closed : (setting : Setting) (id : ℕ) (v w : SeatView) (m : Me (Option SharedLink) SeatView) (words : List ℕ) (slots : List (Option SharedLink)) (taken : Option SharedLink) (shared : SharedLink) (link : Link) → taken ≡ Some shared → link ≡ shared.link → m.0 ≡ whole_view v w
     → Final (Seen (IsLawful setting) id m.0) words slots → get_elem? slots 0 ≡ some taken → IsEnd setting v w link
 closed setting id v w m words slots taken shared link found same is end at =

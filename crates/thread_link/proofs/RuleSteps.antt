@@ -7,7 +7,7 @@ use prog.Atomic.{either}
 use lib.ListN.{get_elem?, set}
 use Rattle.atomic_table.proofs.Lists.{at_set, set_again, set_here}
 use Rattle.atomic_table.specs.Table.{Allows, Me, State, Step, gives, keeps, opening, takes}
-use Rattle.channel_model.specs.Numbers.{other}
+use Rattle.ipdl_base.specs.Sides.{other}
 use Rattle.ipdl_base.specs.declared.kinds.Side.{Side}
 use Rattle.ipdl_base.specs.declared.kinds.Side.TheVariants as sides
 use Rattle.ipdl_base.specs.declared.line.Line.{Line}
@@ -87,7 +87,7 @@ single-set d views id v w here ok all i j a b at_i at_j is_a is_b =
     let y = back d views id v w here ok j b at_j is_b in
     all i j x.0 y.0 x.1 y.1 x.2 y.2
 
--- what is claimed of a new view of one side has to hold of that side alone
+-- what is claimed of a new view of one side must hold only of that side
 for-side : (side : Side) (v w : SeatView) (P : Side → Type 0) → IsOf side v → ((d : Side) → has d w ≡ has d v) → P side → (d : Side) → has d w ≡ true → P d
 for-side side v w P is same p d h = subst P (sym (side-only side d v is (sym (same d) ∙ h))) p
 
@@ -186,7 +186,7 @@ releases setting id v side l more m word st e holds is adds home four =
     let told = law.holders side id v at is.0 holds in
     let w : SeatView = with_seen false side l.link.lines v in
     let same : (d : Side) → has d w ≡ has d v = λ d. has-seen false side d l.link.lines v in
-    let all : l.link.lines ≡ law.all ++ adds.more = adds.behind ∙ ap (λ (ls : List Line). ls ++ adds.more) told.1 in (
+    let all : l.link.lines ≡ law.all ++ adds.more = adds.following ∙ ap (λ (ls : List Line). ls ++ adds.more) told.1 in (
       w,
       gives,
       tt,
@@ -214,7 +214,7 @@ releases setting id v side l more m word st e holds is adds home four =
       subst (λ (d : Side). Released st (v, (0, Some l) ∷ more) word (with_seen false d l.link.lines v, more)) (side-is side v is) refl,
     ))
   where
-    -- another view is of the other side, which the new lines are not of
+    -- another view is of the other side, to which the new lines do not belong
     elsewhere : (side d : Side) (u : SeatView) → lines_of (other side) adds.more ≡ [] → (has side u ≡ true → ⊥) → has d u ≡ true → lines_of d adds.more ≡ []
     elsewhere sides.Parent sides.Parent u own not h = absurd (not h)
     elsewhere sides.Child sides.Child u own not h = absurd (not h)

@@ -17,7 +17,7 @@ use Rattle.world_core.specs.Halves.{IsHome}
 abbrev Place : Type 0
 Place = Seat (Option SharedLink) SeatView
 
--- what a seat knows once its view is told
+-- what a seat knows once its view is known
 pub told-seen : (holds : Bool) (side : Side) (lines : List Line) (v : SeatView) (m : Me (Option SharedLink) SeatView) (carried : List (ℕ × Option SharedLink)) → m ≡ (with_seen holds side lines v, carried) → seen_by side m.0 ≡ lines
 told-seen holds side lines v m carried e = ap (λ (n : Me (Option SharedLink) SeatView). seen_by side n.0) e ∙ seen-with holds side lines v
 

@@ -5,7 +5,7 @@ use Rattle.std.proofs.Crossing.{crosses}
 use Rattle.atomic_table.proofs.send_lease.SendLease.TheSendSync as lease
 use Rattle.atomic_table.proofs.shared.Seat.TheSendSync as seat
 use Rattle.atomic_table.proofs.shared.Shared.TheSendSync as shared
-use Rattle.gates.specs.contracts.Gate as gates
+use Rattle.schedules.specs.contracts.gate.Gate as gates
 use Rattle.thread_link.specs.contracts.parts.SharedLink as shared_links
 use Rattle.thread_link.specs.contracts.pass.Pass as passes
 use Rattle.thread_link.specs.contracts.pass.Exchange as exchanges

@@ -1,4 +1,4 @@
--- Two sides that work at once, and the world that their halves are behind it.
+-- Two sides that work at the same time, and the world that their halves form after that.
 use Rattle.std.proofs.Common.{◌≡◌, ◌∙◌, List, [], ◌++◌, sym, ap, subst}
 use Rattle.ipdl_base.specs.declared.line.Line.{Line}
 use Rattle.script_steps.specs.Choices.{Setting}
@@ -12,7 +12,7 @@ use Rattle.world_core.proofs.SplitHalves.{split-own}
 use Rattle.world_core.specs.declared.answers.RunAnswer.{RunAnswer}
 use Rattle.world_core.specs.declared.answers.RunAnswer.TheVariants as run
 use Rattle.world_core.specs.HalfView.{HalfView, setting_of}
-use Rattle.world_core.specs.Halves.{FitsBehind, IsSplit, joined}
+use Rattle.world_core.specs.Halves.{FitsAfter, IsSplit, joined}
 use Rattle.world_core.specs.LinkView.{LinkView}
 use Rattle.world_core.specs.Turns.{GivesUnless, GrowsTo, WordGives}
 use Rattle.world_core.specs.Worlds.{IsCase}
@@ -26,16 +26,16 @@ works-on exchange first before after half half' a b = record { side = b.side ∙
 pub has-worked : (exchange : Exchange) (first before after : Pass) (half half' : HalfView) → IsAtWork exchange first before half → HasWorked exchange before after half' → HasWorked exchange first after half'
 has-worked exchange first before after half half' a b = record { at_work = works-on exchange first before after half half' a b.at_work; emptied = b.emptied }
 
--- a half that fits behind what a pass knows fits behind what its exchange is about, and the other way round
-pub stands-at : (exchange : Exchange) (pass : Pass) (half : HalfView) → MayWork exchange pass half → FitsBehind pass.seat.me.0.setting pass.side (seen pass) half
-stands-at exchange pass half may = subst (λ (s : Setting). FitsBehind s pass.side (seen pass) half) (sym may.belongs.setting) may.fits
+-- a half that fits after what a pass knows fits in the run of its exchange, and conversely
+pub stands-at : (exchange : Exchange) (pass : Pass) (half : HalfView) → MayWork exchange pass half → FitsAfter pass.seat.me.0.setting pass.side (seen pass) half
+stands-at exchange pass half may = subst (λ (s : Setting). FitsAfter s pass.side (seen pass) half) (sym may.belongs.setting) may.fits
 
-pub may-go-on : (exchange : Exchange) (pass : Pass) (half : HalfView) → Belongs exchange pass → FitsBehind pass.seat.me.0.setting pass.side (seen pass) half → MayWork exchange pass half
-may-go-on exchange pass half belongs fits = record { belongs = belongs; fits = subst (λ (s : Setting). FitsBehind s pass.side (seen pass) half) belongs.setting fits }
+pub may-go-on : (exchange : Exchange) (pass : Pass) (half : HalfView) → Belongs exchange pass → FitsAfter pass.seat.me.0.setting pass.side (seen pass) half → MayWork exchange pass half
+may-go-on exchange pass half belongs fits = record { belongs = belongs; fits = subst (λ (s : Setting). FitsAfter s pass.side (seen pass) half) belongs.setting fits }
 
--- The world behind the work
+-- The world after the work
 
--- A world goes on from another: it is about the same, and its history goes on from the other's.
+-- A world continues another: it is about the same run, and its history continues the other's.
 pub record GoesOn (before after : WorldView) : Type 0 where
   pub same : after.setting ≡ before.setting
   pub grows : GrowsTo before.state.lines after.state.lines

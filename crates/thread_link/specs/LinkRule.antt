@@ -1,4 +1,4 @@
--- The rule of the table that two threads share: what its words, its slot and the views of its seats have to do with one another.
+-- The rule of the table that two threads share: how its words, its slot and the views of its seats depend on each other.
 use Rattle.std.specs.Prelude.{◌≡◌, ◌⊎◌, ℕ, ◌+◌, ◌*◌, Bool, true, List, Option, Some, slice_index, length}
 use mathlib.Core.Option.{some}
 use lib.ListN.{get_elem?}
@@ -22,12 +22,12 @@ abbrev pub seen_by : Side → SeatView → List Line
 seen_by sides.Parent view = view.parent_seen
 seen_by sides.Child view = view.child_seen
 
--- the number that stands for a side that holds the link; 0 stands for none
+-- the number that marks a side as the holder of the link; 0 means that no side holds it
 abbrev pub number_of : Side → ℕ
 number_of sides.Parent = 1
 number_of sides.Child = 2
 
--- each side has seen a front of the history, behind which stand lines of the other side alone
+-- each side has seen a prefix of the history, after which there are only lines of the other side
 abbrev pub HaveSeen : List SeatView → List Line → Type 0
 HaveSeen views all = (side : Side) (id : ℕ) (view : SeatView) → get_elem? views id ≡ some view → has side view ≡ true → HasSeen side (seen_by side view) all
 
@@ -35,7 +35,7 @@ HaveSeen views all = (side : Side) (id : ℕ) (view : SeatView) → get_elem? vi
 abbrev pub AreAbout : List SeatView → Setting → Type 0
 AreAbout views setting = (side : Side) (id : ℕ) (view : SeatView) → get_elem? views id ≡ some view → has side view ≡ true → view.setting ≡ setting
 
--- no two views are of one side
+-- no two views are of the same side
 abbrev pub AreApart : List SeatView → Type 0
 AreApart views =
     (side : Side) (i j : ℕ) (view other_view : SeatView) → get_elem? views i ≡ some view → get_elem? views j ≡ some other_view → has side view ≡ true → has side other_view ≡ true → i ≡ j
@@ -45,20 +45,20 @@ abbrev pub HoldersKnow : List SeatView → ℕ → List Line → Type 0
 HoldersKnow views holder all =
     (side : Side) (id : ℕ) (view : SeatView) → get_elem? views id ≡ some view → has side view ≡ true → view.holds ≡ true → (holder ≡ number_of side) × (seen_by side view ≡ all)
 
--- where a side is the holder, a view of it holds the link
+-- if a side is the holder, a view of it holds the link
 abbrev pub IsHeld : List SeatView → ℕ → Type 0
 IsHeld views holder = (side : Side) → holder ≡ number_of side → (id : ℕ) × (view : SeatView) × (get_elem? views id ≡ some view) × (has side view ≡ true) × (view.holds ≡ true)
 
--- The slot has a link that is home, and whose lines are these.
+-- The slot has a link that is at home in the run, with these lines.
 pub record HasLink (setting : Setting) (s : State (Option SharedLink) SeatView) (all : List Line) : Type 0 where
   pub shared : SharedLink
   pub lies : get_elem? s.homes 0 ≡ some (some (Some shared))
   pub lines : shared.link.lines ≡ all
   pub home : IsHome setting shared.link
 
--- The first word is four times the length of the history, and the number of the side that holds the link, or 0 where none does. Of
--- the second word nothing is said. Where no side holds the link it lies in the slot, and its lines are the history, of which each
--- side has seen a front that lacks lines of the other side alone.
+-- The first word is four times the length of the history, plus the number of the side that holds the link, or 0 if no side
+-- holds it. The rule does not restrict the second word. If no side holds the link, it is in the slot, and its lines are the
+-- history. Each side has seen a prefix of the history, which lacks only lines of the other side.
 pub record IsLawful (setting : Setting) (s : State (Option SharedLink) SeatView) : Type 0 where
   pub all : List Line
   pub holder : ℕ

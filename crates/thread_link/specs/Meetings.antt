@@ -1,4 +1,4 @@
--- What comes of a meeting on a link that two threads share.
+-- The result of a meeting on a link that two threads share.
 use Rattle.std.specs.Prelude.{◌≡◌, List}
 use Rattle.ipdl_base.specs.declared.kinds.Side.{Side}
 use Rattle.ipdl_base.specs.declared.line.Line.{Line}
@@ -9,8 +9,8 @@ use Rattle.world_core.specs.HalfView.{HalfView}
 use Rattle.world_core.specs.Halves.{HasMet, MeetEnds}
 use Rattle.world_core.specs.LinkView.{LinkView}
 
--- A half of a side, which had seen some lines, has met a link. The link that it found goes on behind these lines with lines of the
--- other side alone. It left the link as a meeting of this half leaves it, and has seen the lines of the link as it left it.
+-- A half of a side, which had seen some lines, has met a link. The link that it found continues these lines with lines of
+-- the other side only. The half left the link as a meeting leaves it, and has seen the lines of the link as it left it.
 pub record MeetsShared (setting : Setting) (side : Side) (seen : List Line) (half : HalfView) (answer : MeetAnswer) (now_seen : List Line) (after : HalfView) : Type 0 where
   pub found : LinkView
   pub left : LinkView

@@ -12,7 +12,7 @@ use Rattle.world_core.specs.HalfView.{setting_of}
 abbrev pub seen : Pass → List Line
 seen pass = seen_by pass.side pass.seat.me.0
 
--- where a half of the side of a pass stands: in which run, on which side, and behind which lines
+-- where a half of the side of a pass is: in which run, on which side, and after which lines
 abbrev pub place_of : Pass → Setting × Side × List Line
 place_of pass = (pass.seat.me.0.setting, pass.side, seen pass)
 
@@ -20,7 +20,7 @@ place_of pass = (pass.seat.me.0.setting, pass.side, seen pass)
 abbrev pub about : Exchange → Setting
 about exchange = setting_of exchange.table.shared.key.half.value
 
--- A pass is one of an exchange, and knows the run that it is about.
+-- A pass belongs to an exchange, and knows the run that it is about.
 pub record Belongs (exchange : Exchange) (pass : Pass) : Type 0 where
   pub table : pass.seat.table_id ≡ exchange.table.shared.table_id
   pub setting : pass.seat.me.0.setting ≡ about exchange

@@ -1,8 +1,8 @@
--- Seats of one side, before it takes the link, while it has it, and behind that.
+-- Seats of one side: before it takes the link, while it has it, and after that.
 use Rattle.std.specs.Prelude.{◌≡◌, [], ◌∷◌, ◌++◌, true, false, List, Option, None}
 use Rattle.atomic_table.specs.declared.shared.Seat.{Seat}
 use Rattle.atomic_table.specs.Seated.{TableId}
-use Rattle.channel_model.specs.Numbers.{other}
+use Rattle.ipdl_base.specs.Sides.{other}
 use Rattle.ipdl_base.specs.declared.kinds.Side.{Side}
 use Rattle.ipdl_base.specs.declared.line.Line.{Line}
 use Rattle.script_steps.specs.Progress.{lines_of}
@@ -13,17 +13,17 @@ use Rattle.thread_link.specs.LinkRule.{has, seen_by}
 use Rattle.thread_link.specs.Steps.{with_seen}
 use Rattle.world_core.specs.Halves.{IsHome}
 
--- the view is that of a side alone
+-- the view is that of this side only
 abbrev pub IsOf : Side → SeatView → Type 0
 IsOf side view = (has side view ≡ true) × (has (other side) view ≡ false)
 
--- A seat of a side, which does not hold the link.
+-- A seat of a side that does not hold the link.
 pub record IsSeatOf (side : Side) (seat : Seat (Option SharedLink) SeatView) : Type 0 where
   pub is_of : IsOf side seat.me.0
   pub free : seat.me.0.holds ≡ false
   pub empty : seat.me.1 ≡ []
 
--- A seat of a side, which holds the link, whose slot is empty.
+-- A seat of a side that holds the link; the slot is empty.
 pub record IsHolder (side : Side) (seat : Seat (Option SharedLink) SeatView) : Type 0 where
   pub is_of : IsOf side seat.me.0
   pub holds : seat.me.0.holds ≡ true
@@ -37,10 +37,10 @@ pub record HasTaken (side : Side) (before after : Seat (Option SharedLink) SeatV
   pub home : IsHome before.me.0.setting shared.link
   pub seen : HasSeen side (seen_by side before.me.0) shared.link.lines
 
--- Lines of a side were added behind others.
+-- Lines of a side were added at the end.
 pub record Adds (side : Side) (before after : List Line) : Type 0 where
   pub more : List Line
-  pub behind : after ≡ before ++ more
+  pub following : after ≡ before ++ more
   pub own : lines_of (other side) more ≡ []
 
 -- A seat has given the link back, and its side has seen the lines of the link.

@@ -1,4 +1,4 @@
--- What each step on the table does to a view, and what it tells.
+-- What each step on the table does to a view, and what it shows.
 use Rattle.std.specs.Prelude.{◌≡◌, ◌≢◌, ℕ, ◌∷◌, [], Bool, true, false, List, Option, Some, None}
 use Rattle.atomic_table.specs.Table.{Me, Step, rest}
 use Rattle.ipdl_base.specs.declared.kinds.Side.{Side}
@@ -15,7 +15,7 @@ use Rattle.world_core.specs.Halves.{IsHome}
 abbrev pub first_view : Setting → List Line → SeatView
 first_view setting lines = record { parent = true; child = true; holds = false; setting = setting; parent_seen = lines; child_seen = lines }
 
--- no side, about nothing
+-- no side, and no run
 abbrev pub spent_view : SeatView
 spent_view = record {
   parent = false;
@@ -50,7 +50,7 @@ child_part view = record view { parent = false; holds = false }
 abbrev pub whole_view : SeatView → SeatView → SeatView
 whole_view view other_view = record { parent = true; child = true; holds = false; setting = view.setting; parent_seen = view.parent_seen; child_seen = other_view.child_seen }
 
--- the lines of what lies in a slot, and of what a seat carries
+-- the lines of what is in a slot, and of what a seat carries
 abbrev pub slot_lines : Option SharedLink → List Line
 slot_lines None = []
 slot_lines (Some shared) = shared.link.lines
@@ -59,15 +59,15 @@ abbrev pub carried_lines : List (ℕ × Option SharedLink) → List Line
 carried_lines [] = []
 carried_lines (carried ∷ more) = slot_lines carried.1
 
--- The link is taken: it is home, the seat carries it, and its side has seen all of its lines, which go on with the other side's
--- lines behind what it had seen.
+-- The link is taken: it is at home in the run, the seat carries it, and its side has seen all of its lines. After what the
+-- side had seen, these are lines of the other side only.
 pub record HasTakenLink (side : Side) (before : Me (Option SharedLink) SeatView) (after : Me (Option SharedLink) SeatView) : Type 0 where
   pub shared : SharedLink
   pub me : after ≡ (with_seen true side shared.link.lines before.0, (0, Some shared) ∷ [])
   pub home : IsHome before.0.setting shared.link
   pub seen : HasSeen side (seen_by side before.0) shared.link.lines
 
--- where the word was the expected one the link is taken, else nothing changed
+-- if the word was the expected one, the link is taken; else nothing changed
 abbrev pub Locked : Step (Option SharedLink) → Me (Option SharedLink) SeatView → ℕ → Me (Option SharedLink) SeatView → Type 0
 Locked st before found after = (found ≡ st.first → HasTakenLink (side_of before.0) before after) × (found ≢ st.first → after ≡ (before.0, []))
 

@@ -1,4 +1,5 @@
-//! The link of a run on a table that two threads share, and the turns of holding it.
+//! The link of a run on a table that two threads share, and the turns in which a side holds it.
+
 ghost use Rattle.std.specs.Prelude.{◌≡◌, ◌⊎◌, ◌∷◌, [], IfOk, IfErr, Some};
 ghost use Rattle.ipdl_base.specs.declared.kinds.Side.{Side as EndSide};
 ghost use Rattle.ipdl_base.specs.declared.kinds.Side.TheVariants as sides;
@@ -18,27 +19,29 @@ use ipdl_base::Side;
 use std::alloc::{AllocFailed, Global};
 use std::snapshot::Snapshot;
 use std::sync::Wait;
-use world_core::{Half, Link, MeetAnswer, halves_fit_behind_more};
+use world_core::{Half, Link, MeetAnswer, halves_fit_after_more};
 
-/// There was no memory for an exchange. The link comes back.
+/// There was no memory for an exchange. The error returns the link.
 #[derive(Drop)]
 pub enum OpenFault {
+    /// Memory ran out. Contains the link.
     NoMemory(Link),
 }
 
-/// What came of a turn of holding the link.
+/// The result of a turn in which a side held the link.
 #[derive(Drop)]
 pub struct LinkTurn {
+    /// What the meeting of the half with the link returned.
     pub answer: MeetAnswer,
-    /// Neither side has anything left to do, or a side has given up.
+    /// Whether neither side has anything left to do, or a side has given up.
     pub ended: bool,
-    /// The half has no own step to do.
+    /// Whether the half has no step of its own left.
     pub rests: bool,
-    /// How many turns of both sides have been counted, with this one.
+    /// How many turns of both sides have been counted, including this one.
     pub turns: u64,
 }
 
-// The link, of which neither side has said anything.
+// Returns the shared form of a link about which neither side has reported anything.
 fn untouched(link: Link) -> SharedLink
     ensures { result.link ≡ link }
 {
@@ -50,7 +53,7 @@ fn untouched(link: Link) -> SharedLink
     }
 }
 
-// The link alone.
+// Returns the link without the reports of the sides.
 fn link_of(shared: SharedLink) -> Link
     ensures { result ≡ shared.link }
 {
@@ -63,7 +66,7 @@ fn link_of(shared: SharedLink) -> Link
     link
 }
 
-// One slot, with the link in it.
+// Returns one slot, with the link in it.
 fn only_slot(alloc: Global, shared: SharedLink) -> Result<Vec<Option<SharedLink>>, SharedLink>
     ensures ok { IfOk result (λ slots. slots.items ≡ Some shared ∷ []) }
     ensures err { IfErr result (λ back. back ≡ shared) }
@@ -79,7 +82,7 @@ fn only_slot(alloc: Global, shared: SharedLink) -> Result<Vec<Option<SharedLink>
     }
 }
 
-// What the table of a run is about.
+// Returns what the table of a run is about.
 fn topic_of<'s>(half: &Half<'s>, link: &Link) -> Topic<'s>
     ensures half { result.half.value ≡ half.entry.now }
     ensures link { result.link.value ≡ link.now }
@@ -90,7 +93,7 @@ fn topic_of<'s>(half: &Half<'s>, link: &Link) -> Topic<'s>
     }
 }
 
-// How a half stands.
+// Returns the state of a half.
 fn state_of(half: &Half<'_>) -> SideState {
     if !half.rests() {
         SideState::Busy
@@ -102,7 +105,7 @@ fn state_of(half: &Half<'_>) -> SideState {
 }
 
 impl SharedLink {
-    // A side says how it stands, and whether it gives up.
+    // Records the state of a side, and whether it gives up.
     fn tell(&mut self, side: Side, state: SideState, gives_up: bool)
         ensures { self.new.link ≡ self.old.link }
     {
@@ -113,7 +116,7 @@ impl SharedLink {
         self.over = self.over || gives_up;
     }
 
-    // Whether a side that stands so has nothing left to do.
+    // Returns whether a side in this state has nothing left to do.
     fn is_done(&self, side: Side, state: SideState) -> bool {
         match state {
             SideState::Busy => false,
@@ -122,7 +125,7 @@ impl SharedLink {
         }
     }
 
-    // Whether neither side has anything left to do, or one of them gave up.
+    // Returns whether neither side has anything left to do, or one of them gave up.
     fn is_ended(&self) -> bool {
         self.over
             || (self.is_done(Side::Parent, self.parent) && self.is_done(Side::Child, self.child))
@@ -130,9 +133,9 @@ impl SharedLink {
 }
 
 impl<'s> Exchange<'s> {
-    /// The exchange of the link of a run, with the parent's pass and the child's, which have seen its
-    /// history. The run is that of the half. The only error is want of memory, which gives the link
-    /// back.
+    /// Opens an exchange of the link of a run, with a pass for the parent and one for the child, which
+    /// have seen its history. The run is that of the half. Fails only if memory runs out; the error
+    /// returns the link.
     pub fn open(
         alloc: Global,
         half: &Half<'s>,
@@ -175,8 +178,8 @@ impl<'s> Exchange<'s> {
         }
     }
 
-    /// Counts the turn with which a side begins, and wakes the other side where it waits for that. The link stays where it
-    /// is, and the side has seen no more.
+    /// Counts the turn with which a side begins, and wakes the other side if it waits for that. The
+    /// link does not move, and the side sees nothing new.
     pub(crate) fn begin(&self, pass: &mut Pass)
         requires { Belongs self.now pass.old }
         ensures belongs { Belongs self.now pass.new }
@@ -187,8 +190,8 @@ impl<'s> Exchange<'s> {
         self.table.shared.wake_one(1);
     }
 
-    /// A turn of holding the link, for which it may wait: one meeting of the half with it. A side that
-    /// gives up ends the work of both.
+    /// Takes the link, lets the half meet it once, and gives it back. May wait for the link. A side
+    /// that gives up ends the work of both.
     pub(crate) fn turn<R: Wait>(
         &self,
         rt: &R,
@@ -205,7 +208,7 @@ impl<'s> Exchange<'s> {
         let side = pass.side;
         let board = &self.table.shared;
         let mut shared = take(rt, board, &mut pass.seat, side);
-        halves_fit_behind_more();
+        halves_fit_after_more();
         let answer = half.meet(&mut shared.link);
         let rests = half.rests();
         let given_up = gives_up || !matches!(answer, MeetAnswer::Moved(_));
@@ -220,8 +223,8 @@ impl<'s> Exchange<'s> {
         }
     }
 
-    /// One meeting of the half with the shared link, for which it may wait: the answer, and when each
-    /// comes, are those of `Half::meet`.
+    /// Lets the half meet the shared link once. May wait for the link. The answers are those of
+    /// `Half::meet`.
     pub fn meet<R: Wait>(&self, rt: &R, pass: &mut Pass, half: &mut Half<'_>) -> MeetAnswer
         requires { MayWork self.now pass.old half.old }
         ensures meets { MeetsShared (about self.now) pass.old.side (seen pass.old) half.old result (seen pass.new) half.new }
@@ -230,7 +233,8 @@ impl<'s> Exchange<'s> {
         self.turn(rt, pass, half, false).answer
     }
 
-    /// The link, whose history is the longer one of what the two passes have seen. It takes no memory.
+    /// Closes the exchange and returns the link. Its history is the longer of those that the two passes
+    /// have seen. Takes no memory.
     pub fn close(self, parent: Pass, child: Pass) -> Link
         requires parent { Belongs self parent × (parent.side ≡ sides.Parent) }
         requires child { Belongs self child × (child.side ≡ sides.Child) }

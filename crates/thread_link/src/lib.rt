@@ -1,5 +1,5 @@
-//! Both ends of a run at once: the link that two threads share, and the driver that gives each end a
-//! thread of its own (docs/threads.md).
+//! Runs both ends of a run at the same time: the link that two threads share, and the driver that gives
+//! each end a thread of its own (docs/threads.md).
 #![tactic(auto)]
 
 mod exchange;
@@ -10,6 +10,6 @@ mod turns;
 mod workers;
 
 pub use exchange::OpenFault;
-pub use gates::{Gate, MeetingPoint};
 pub use pass::{Exchange, Pass};
+pub use schedules::{Gate, MeetingPoint};
 pub use threads::TwoThreads;

@@ -1,4 +1,5 @@
-//! What lies on the table that two threads share, what its seats know, and the steps on it.
+//! What is on the table that two threads share, what its seats know, and the steps on it.
+
 ghost use Rattle.std.specs.Prelude.{List};
 ghost use Rattle.std.specs.Coded.{codes};
 ghost use Rattle.ipdl_base.specs.contracts.schema.Shape as shape;
@@ -12,33 +13,36 @@ use std::marker::Model;
 use std::snapshot::Snapshot;
 use world_core::{Half, Link};
 
-/// How a side stood when it gave the link back.
+/// The state of a side when it gave the link back.
 #[derive(Clone, Copy)]
 pub enum SideState {
-    /// It has an own step to do.
+    /// The side has a step of its own to make.
     Busy,
-    /// It has none, and a packet may be delivered to it.
+    /// The side has no step of its own, and a packet may be delivered to it.
     Resting,
-    /// It has none, and no packet is delivered to it any more.
+    /// The side has no step of its own, and no packet is delivered to it any more.
     Shut,
 }
 
-/// The link, and what each side said of itself when it had it.
+/// The link, and the state that each side reported when it last held it.
 #[derive(Drop)]
 pub struct SharedLink {
     pub(crate) link: Link,
     pub(crate) parent: SideState,
     pub(crate) child: SideState,
-    /// A side gave up: memory ran out, or it had something left to do but as many events as it may have, or the other side
-    /// did not begin.
+    /// Whether a side gave up: memory ran out, or it had something left to do but had reached its limit
+    /// of events, or the other side did not begin.
     pub(crate) over: bool,
 }
 
-/// What a seat knows: whose it is, whether it holds the link, what the run is about, and the lines that
-/// each side has seen. No value of it is made.
+/// What a seat knows: which sides it belongs to, whether it holds the link, what the run is about, and
+/// the lines that each side has seen. No value of this type is made.
 pub struct SeatView {
+    /// Whether the seat belongs to the parent.
     pub parent: bool,
+    /// Whether the seat belongs to the child.
     pub child: bool,
+    /// Whether the seat holds the link.
     pub holds: bool,
     pub ghost setting: { Setting } by { Prim.hlevel (codes, values.the_row.coded, shape.the_row.coded, terms.the_row.coded) },
     pub ghost parent_seen: { List Line } by { Prim.hlevel (codes, values.the_row.coded) },
@@ -51,7 +55,7 @@ impl Model for SeatView {
     ghost also_owns = { λ _. ftrue };
 }
 
-/// What a table is about: a run, by one of its halves, and the link as it was. It has no bytes.
+/// What a table is about: a run, given by one of its halves, and the link as it was. Has no bytes.
 #[derive(Drop)]
 pub struct Topic<'s> {
     pub(crate) half: Snapshot<Half<'s>>,
@@ -71,7 +75,7 @@ impl<'s> TableRule<Option<SharedLink>, SeatView, Topic<'s>> for LinkRule {
     ghost first = { λ topic. first_view (setting_of topic.half.value) topic.link.value.lines };
 }
 
-/// The link is taken, where nobody holds it.
+/// Takes the link if no side holds it.
 pub struct Lock;
 
 impl Play<Option<SharedLink>, SeatView> for Lock {
@@ -80,7 +84,7 @@ impl Play<Option<SharedLink>, SeatView> for Lock {
     ghost then = { Locked };
 }
 
-/// The link is given back.
+/// Gives the link back.
 pub struct Release;
 
 impl Play<Option<SharedLink>, SeatView> for Release {
@@ -89,7 +93,7 @@ impl Play<Option<SharedLink>, SeatView> for Release {
     ghost then = { Released };
 }
 
-/// A turn of holding is counted.
+/// Counts a turn.
 pub struct Count;
 
 impl Play<Option<SharedLink>, SeatView> for Count {
@@ -98,7 +102,7 @@ impl Play<Option<SharedLink>, SeatView> for Count {
     ghost then = { Unchanged };
 }
 
-/// The sides part.
+/// Splits a seat of both sides into one for each side.
 pub struct Parting;
 
 impl Split<SeatView> for Parting {
@@ -109,7 +113,7 @@ impl Split<SeatView> for Parting {
     ghost right = { child_part };
 }
 
-/// The sides come together for good.
+/// Joins the seats of both sides for good.
 pub struct Reunion;
 
 impl Join<SeatView> for Reunion {

@@ -1,3 +1,5 @@
+//! The exchange of a link, its passes, and the types of its table.
+
 ghost use Rattle.thread_link.specs.Seats.{IsSeatOf, IsShaped};
 
 use crate::parts::{LinkRule, SeatView, SharedLink, Topic};
@@ -5,10 +7,13 @@ use atomic_table::{Seat, Shared, Table};
 use ipdl_base::Side;
 use std::alloc::Global;
 
-pub type Place = Seat<Option<SharedLink>, SeatView>;
+/// A seat at the table of a link: what one side knows and carries.
+pub type SideSeat = Seat<Option<SharedLink>, SeatView>;
 
+/// The part of the table that both threads share.
 pub type Board<'s> = Shared<Option<SharedLink>, SeatView, Topic<'s>, LinkRule>;
 
+/// The table of a link, as its owner has it.
 pub type LinkTable<'s> = Table<Option<SharedLink>, SeatView, Topic<'s>, LinkRule, Global>;
 
 /// The link of a run, which two threads share (docs/threads.md).
@@ -18,19 +23,19 @@ pub struct Exchange<'s> {
     pub(crate) ghost shape: { IsShaped table.shared.table_id },
 }
 
-/// The right of one side to meet the link of an exchange. Contracts see the side, and the lines of the
+/// The right of one side to meet the link of an exchange. Contracts see the side and the lines of the
 /// history that it has seen.
 #[derive(Drop)]
 pub struct Pass {
     pub(crate) side: Side,
-    pub(crate) seat: Place,
+    pub(crate) seat: SideSeat,
     pub(crate) ghost is_pass: { IsSeatOf side seat },
 }
 
 impl Pass {
     ghost use Rattle.std.specs.Prelude.{◌≡◌};
 
-    /// The side whose pass it is. It takes no memory.
+    /// Returns the side that the pass belongs to. Takes no memory.
     pub fn side(&self) -> Side
         ensures { result ≡ self.now.side }
     {

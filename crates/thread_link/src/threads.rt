@@ -1,16 +1,17 @@
 //! The driver that gives each side of a run a thread of its own.
+
 ghost use Rattle.std.specs.Prelude.{◌≡◌};
 ghost use Rattle.std.specs.Thread.{IsSync};
 ghost use Rattle.thread_link.specs.Runs.{RunsAtOnce};
 
 use crate::workers::run_at_once;
-use gates::Gate;
+use schedules::Gate;
 use std::sync::Wait;
 use std::thread::Threads;
 use world_core::{Driver, RunAnswer, World};
 
-/// Each side of a run on a thread of its own (docs/threads.md). A run may wait, and what is promised of it holds where it
-/// returns.
+/// Runs each side of a run on a thread of its own (docs/threads.md). A run may wait; its contract holds
+/// if it returns.
 #[derive(Drop)]
 pub struct TwoThreads<'r, R: Threads + Wait + Sync + AllocGlobal> {
     rt: &'r R,
@@ -18,14 +19,14 @@ pub struct TwoThreads<'r, R: Threads + Wait + Sync + AllocGlobal> {
 }
 
 impl<'r, R: Threads + Wait + Sync + AllocGlobal> TwoThreads<'r, R> {
-    /// Creates the driver whose sides pass a gate before each own step. It takes no memory.
+    /// Creates a driver whose sides pass a gate before each step of their own. Takes no memory.
     pub fn new(rt: &'r R, gate: Gate) -> TwoThreads<'r, R>
         ensures { IsSync R.row }
     {
         TwoThreads { rt, gate }
     }
 
-    /// Returns the gate. It takes no memory.
+    /// Returns the gate. Takes no memory.
     pub fn gate(&self) -> &Gate
         ensures { result.now ≡ self.now.gate }
     {

@@ -1,21 +1,23 @@
-//! The lock of the table: who holds it has the link.
+//! The lock of the table. The side that holds it has the link.
+
 ghost use Rattle.std.specs.Prelude.{◌≡◌, ◌≤◌, ◌+◌, ◌%◌, ◌*◌, ◌<◌, ◌^◌, IfSome, IfNone, length};
 ghost use Rattle.thread_link.specs.LinkRule.{number_of, seen_by};
 ghost use Rattle.thread_link.specs.Seats.{Adds, HasGiven, HasTaken, IsHolder, IsSeatOf, IsShaped};
 ghost use Rattle.world_core.specs.Halves.{IsHome};
 
 use crate::parts::{Count, Lock, Release, SharedLink};
-use crate::pass::{Board, Place};
+use crate::pass::{Board, SideSeat};
 use ipdl_base::Side;
 use std::sync::Wait;
 use std::time::Duration;
 
-/// The most pieces in which a side waits for the other one to begin, and the length of each: a second in all.
+/// The greatest number of pieces in which a side waits for the other one to begin, and the length of
+/// each: one second in all.
 const MOST_PIECES: u32 = 100;
 
 const PIECE_MILLIS: u64 = 10;
 
-// The number of a side that holds the link.
+// Returns the number that marks a side as the holder of the link.
 fn number(side: Side) -> u64
     ensures { result ≡ number_of side }
 {
@@ -25,7 +27,8 @@ fn number(side: Side) -> u64
     }
 }
 
-/// The first word of the table where no side holds the link, and the history has so many lines.
+/// Returns the first word of the table if no side holds the link and the history has this number of
+/// lines.
 pub fn free_word(lines: usize) -> u64
     requires { 4 * lines < 2 ^ 64 }
     ensures { result ≡ 4 * lines }
@@ -33,13 +36,13 @@ pub fn free_word(lines: usize) -> u64
     4 * (lines as u64)
 }
 
-// The low half of a word, on which threads sleep.
+// Returns the low half of a word, on which threads sleep.
 fn low_half(word: u64) -> u32 {
     (word & 0xFFFF_FFFF) as u32
 }
 
-// Takes the link where the word is still the one that was found.
-fn try_take(board: &Board<'_>, seat: &mut Place, side: Side, found: u64) -> Option<SharedLink>
+// Takes the link if the word is still `found`.
+fn try_take(board: &Board<'_>, seat: &mut SideSeat, side: Side, found: u64) -> Option<SharedLink>
     requires board { IsShaped board.now.table_id × (seat.old.table_id ≡ board.now.table_id) }
     requires seat { IsSeatOf side seat.old }
     requires free { found % 4 ≡ 0 }
@@ -56,7 +59,7 @@ fn try_take(board: &Board<'_>, seat: &mut Place, side: Side, found: u64) -> Opti
 }
 
 /// Waits until no side holds the link, and takes it.
-pub fn take<R: Wait>(rt: &R, board: &Board<'_>, seat: &mut Place, side: Side) -> SharedLink
+pub fn take<R: Wait>(rt: &R, board: &Board<'_>, seat: &mut SideSeat, side: Side) -> SharedLink
     requires board { IsShaped board.now.table_id × (seat.old.table_id ≡ board.now.table_id) }
     requires seat { IsSeatOf side seat.old }
     ensures { HasTaken side seat.old seat.new result }
@@ -72,8 +75,8 @@ pub fn take<R: Wait>(rt: &R, board: &Board<'_>, seat: &mut Place, side: Side) ->
     unreachable!()
 }
 
-/// Counts a turn, and returns how many there have been, with this one.
-pub fn count(board: &Board<'_>, seat: &mut Place) -> u64
+/// Counts a turn, and returns how many there have been, including this one.
+pub fn count(board: &Board<'_>, seat: &mut SideSeat) -> u64
     requires board { IsShaped board.now.table_id × (seat.old.table_id ≡ board.now.table_id) }
     ensures table { seat.new.table_id ≡ seat.old.table_id }
     ensures me { seat.new.me ≡ seat.old.me }
@@ -81,9 +84,9 @@ pub fn count(board: &Board<'_>, seat: &mut Place) -> u64
     board.fetch_add::<Count>(seat, 1, 1).wrapping_add(1)
 }
 
-/// Sleeps while there have been so many turns, and returns whether the side is to go on. Where as many were the side's
-/// own, the other side was not seen to begin: then it sleeps for about a second at most, and is to go on only if there
-/// was another turn.
+/// Sleeps while there have been `turns` turns, and returns whether the side must continue. If all of
+/// them were the side's own, the other side has not begun yet: then the side sleeps for about a second
+/// at most, and continues only if there was another turn.
 pub fn sleep<R: Wait>(rt: &R, board: &Board<'_>, turns: u64, own: u64) -> bool
     requires { IsShaped board.now.table_id }
 {
@@ -100,9 +103,10 @@ pub fn sleep<R: Wait>(rt: &R, board: &Board<'_>, turns: u64, own: u64) -> bool
     false
 }
 
-/// Counts the turn, gives the link back, to which lines of the side may have been added, and wakes who
-/// waits for it or for a turn; how many turns there have been, with this one.
-pub fn give(board: &Board<'_>, seat: &mut Place, side: Side, shared: SharedLink) -> u64
+/// Counts the turn, gives the link back, and wakes a side that waits for the link or for a turn. Lines
+/// of the side may have been added to the link. Returns how many turns there have been, including this
+/// one.
+pub fn give(board: &Board<'_>, seat: &mut SideSeat, side: Side, shared: SharedLink) -> u64
     requires board { IsShaped board.now.table_id × (seat.old.table_id ≡ board.now.table_id) }
     requires seat { IsHolder side seat.old }
     requires adds { Adds side (seen_by side seat.old.me.0) shared.link.lines }

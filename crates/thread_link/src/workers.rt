@@ -1,4 +1,6 @@
-//! Each side on a worker of its own: own steps, and turns with the link, until nothing is left to do.
+//! Each side on a worker of its own: its own steps, and turns with the link, until nothing is left to
+//! do.
+
 ghost use Rattle.std.specs.Prelude.{◌≡◌, [], List};
 ghost use Rattle.ipdl_base.specs.declared.kinds.Side.{Side as EndSide};
 ghost use Rattle.ipdl_base.specs.declared.kinds.Side.TheVariants as sides;
@@ -7,20 +9,20 @@ ghost use Rattle.script_steps.specs.Choices.{Setting};
 ghost use Rattle.thread_link.specs.Runs.{RunsAtOnce};
 ghost use Rattle.thread_link.specs.Work.{HasWorked, MayWork};
 ghost use Rattle.world_core.specs.HalfView.{setting_of};
-ghost use Rattle.world_core.specs.Halves.{FitsBehind, IsSplit};
+ghost use Rattle.world_core.specs.Halves.{FitsAfter, IsSplit};
 ghost use Rattle.world_core.specs.Turns.{GivesUnless, GrowsTo, StandsAs, WordGives};
 ghost use Rattle.world_core.specs.Worlds.{IsCase, IsLawful};
 
 use crate::exchange::OpenFault;
 use crate::pass::{Exchange, Pass};
 use crate::turns::sleep;
-use gates::Gate;
+use schedules::Gate;
 use std::alloc::{AllocError, Global};
 use std::sync::Wait;
 use std::thread::{Threads, join_mut};
-use world_core::{Half, Link, MeetAnswer, RunAnswer, StepAnswer, World, halves_fit_behind_more};
+use world_core::{Half, Link, MeetAnswer, RunAnswer, StepAnswer, World, halves_fit_after_more};
 
-// Own steps of a side, until it has none or cannot do it.
+// Makes steps of a side until it has no step of its own left, or cannot make the next one.
 fn go_on<R: Wait>(
     rt: &R,
     gate: &Gate,
@@ -29,8 +31,8 @@ fn go_on<R: Wait>(
     steps: &mut u32,
 ) -> StepAnswer
     ghost at: { Setting × EndSide × List Line }
-    requires { FitsBehind at.0 at.1 at.2 half.old }
-    ensures { FitsBehind at.0 at.1 at.2 half.new }
+    requires { FitsAfter at.0 at.1 at.2 half.old }
+    ensures { FitsAfter at.0 at.1 at.2 half.new }
 {
     for _ in rt.forever() {
         if half.rests() {
@@ -46,8 +48,8 @@ fn go_on<R: Wait>(
     unreachable!()
 }
 
-// The work of one side, until both have nothing left to do or one of them gives up. A side gives up too where the other one
-// does not begin. The only error is that memory ran out at this side.
+// Does the work of one side, until both have nothing left to do or one of them gives up. A side also
+// gives up if the other one does not begin. Fails only if memory ran out at this side.
 fn work<'a, 'b, R: Wait>(
     rt: &R,
     gate: &Gate,
@@ -77,7 +79,7 @@ fn work<'a, 'b, R: Wait>(
     unreachable!()
 }
 
-// Whether there was memory for what was done last.
+// Fails if memory ran out in the last step or meeting.
 fn memory_of(step: StepAnswer, meeting: MeetAnswer) -> Result<(), AllocError> {
     if matches!(step, StepAnswer::NoMemory) || matches!(meeting, MeetAnswer::NoMemory) {
         Err(AllocError)
@@ -86,7 +88,7 @@ fn memory_of(step: StepAnswer, meeting: MeetAnswer) -> Result<(), AllocError> {
     }
 }
 
-// The work of both sides, each on a thread of its own.
+// Does the work of both sides, each on a thread of its own.
 fn work_both<'a, 'b, 'c, R: Threads + Wait + Sync>(
     rt: &R,
     gate: &Gate,
@@ -116,8 +118,8 @@ fn work_both<'a, 'b, 'c, R: Threads + Wait + Sync>(
     second
 }
 
-// The work of both halves on a link, and the link behind it. An error is want of memory: for the
-// exchange, where nothing is done, or at a side.
+// Does the work of both halves on a link, and returns the link after it. An error means that memory ran
+// out: for the exchange, in which case nothing was done, or at a side.
 fn work_apart<R: Threads + Wait + Sync>(
     rt: &R,
     alloc: Global,
@@ -138,11 +140,11 @@ fn work_apart<R: Threads + Wait + Sync>(
         }
     };
     let worked = work_both(rt, gate, &exchange, &mut one, &mut two, parent, child);
-    halves_fit_behind_more();
+    halves_fit_after_more();
     (exchange.close(one, two), worked)
 }
 
-// Both sides in turn to the end, where there was memory so far.
+// Runs both sides in turn to the end, if there was memory so far.
 fn end_run(world: &mut World<'_>, worked: Result<(), AllocError>) -> RunAnswer
     ensures history { IsCase world.old }
     ensures gives { GivesUnless (λ before after answer. WordGives before [] answer after) world.old world.new result }

@@ -1,3 +1,5 @@
+//! A race whose sides meet at a gate before their first steps.
+
 ghost use Rattle.ipdl_base.specs.Sound.{IsSound};
 ghost use Rattle.handler_script.specs.Valid.{IsValid};
 
@@ -13,7 +15,8 @@ use std::thread::Threads;
 use thread_link::{Gate, MeetingPoint, TwoThreads};
 use world_core::{Driver, World};
 
-/// How many steps the parent and the child came to a gate with, and how many sides did not meet the other one there.
+/// Returns how many steps the parent and the child brought to a gate, and how many sides did not meet
+/// the other one there.
 fn told_by(alloc: Global, gate: &Gate) -> Result<String, Fail> {
     match gate {
         Gate::Open => Err("a gate that counts nothing".into()),
@@ -26,7 +29,7 @@ fn told_by(alloc: Global, gate: &Gate) -> Result<String, Fail> {
     }
 }
 
-/// What the meeting point tells of the race, and whether the run was one of the race.
+/// Returns what the meeting point reports of the race, and whether the run was one of the race.
 fn crossed<R: Threads + Wait + Sync + AllocGlobal>(
     rt: &R,
     schema: &Schema,

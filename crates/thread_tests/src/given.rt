@@ -1,3 +1,5 @@
+//! The protocol and the scripts of the tests.
+
 ghost use Rattle.std.specs.Prelude.{IfOk};
 ghost use Rattle.ipdl_base.specs.Sound.{IsSound};
 ghost use Rattle.handler_script.specs.Valid.{IsValid};
@@ -25,7 +27,7 @@ return (20)
 end
 ";
 
-/// The script of a text, whose top is the first protocol.
+/// Returns the script of a text. Its top is the first protocol.
 pub fn script_of(alloc: Global, schema: &Schema, text: &str) -> Result<Script, Fail>
     requires sound { IsSound schema.now }
     ensures { IfOk result (IsValid schema.now) }
@@ -40,7 +42,7 @@ pub fn script_of(alloc: Global, schema: &Schema, text: &str) -> Result<Script, F
     )
 }
 
-/// The text of a script in which each main calls the other side so many times.
+/// Returns the text of a script in which each main calls the other side this many times.
 pub fn calls(alloc: Global, count: u32) -> Result<String, Fail> {
     let mut text = String::new(alloc);
     writeln!(text, "parent main")?;

@@ -1,5 +1,5 @@
-//! Tests of runs whose sides go on at once (docs/threads.md): an exchange by hand, the gate, and whole
-//! runs, again and again.
+//! Tests of runs whose sides run at the same time (docs/threads.md): an exchange by hand, the gate, and
+//! whole runs, again and again.
 #![tactic(auto)]
 
 #[cfg(test)]

@@ -1,3 +1,5 @@
+//! An exchange by hand: both halves in turn on one thread, or at the same time on two.
+
 ghost use Rattle.std.specs.Prelude.{◌≡◌, ◌≤◌, List, IfOk};
 ghost use Rattle.handler_script.specs.Valid.{IsValid};
 ghost use Rattle.ipdl_base.specs.declared.kinds.Side.{Side as EndSide};
@@ -6,7 +8,7 @@ ghost use Rattle.ipdl_base.specs.Sound.{IsSound};
 ghost use Rattle.script_steps.specs.Choices.{Setting};
 ghost use Rattle.thread_link.specs.Work.{HasWorked, MayWork};
 ghost use Rattle.world_core.specs.HalfView.{setting_of};
-ghost use Rattle.world_core.specs.Halves.{FitsBehind, IsSplit};
+ghost use Rattle.world_core.specs.Halves.{FitsAfter, IsSplit};
 
 use super::given::{PROTOCOL, RACE, script_of};
 use super::printouts::{is_run_race, printed};
@@ -18,16 +20,16 @@ use std::sync::Wait;
 use std::test::Fail;
 use std::thread::{Threads, join_mut};
 use thread_link::{Exchange, OpenFault, Pass};
-use world_core::{Half, Link, MeetAnswer, StepAnswer, World, halves_fit_behind_more};
+use world_core::{Half, Link, MeetAnswer, StepAnswer, World, halves_fit_after_more};
 
-/// How many rounds each side does behind its first.
+/// How many rounds each side makes after its first.
 const MORE_ROUNDS: u32 = 7;
 
-/// Own steps of a half, until it has none.
+/// Makes steps of a half until it has no step of its own left.
 fn go_on(pass: &Pass, half: &mut Half<'_>)
     ghost at: { Setting × EndSide × List Line }
-    requires { FitsBehind at.0 at.1 at.2 half.old }
-    ensures { FitsBehind at.0 at.1 at.2 half.new }
+    requires { FitsAfter at.0 at.1 at.2 half.old }
+    ensures { FitsAfter at.0 at.1 at.2 half.new }
 {
     let _ = pass.side();
     for _ in 0..64 {
@@ -37,7 +39,7 @@ fn go_on(pass: &Pass, half: &mut Half<'_>)
     }
 }
 
-/// Own steps of a half, and then a meeting.
+/// Makes steps of a half until it has no step of its own left, and then a meeting.
 fn round<R: Wait>(
     rt: &R,
     exchange: &Exchange<'_>,
@@ -51,7 +53,7 @@ fn round<R: Wait>(
     exchange.meet(rt, pass, half)
 }
 
-/// All rounds of a half, and what its last meeting answers.
+/// Makes all rounds of a half. Returns the answer of its last meeting.
 fn rounds<'a, 'b, R: Wait>(
     rt: &R,
     exchange: &Exchange<'a>,
@@ -68,7 +70,7 @@ fn rounds<'a, 'b, R: Wait>(
     last
 }
 
-/// The rounds of both halves in turn, the parent's first.
+/// Makes the rounds of both halves in turn, the parent's first.
 fn in_turn<'a, 'b, 'c, R: Wait>(
     rt: &R,
     exchange: &Exchange<'a>,
@@ -91,7 +93,7 @@ fn in_turn<'a, 'b, 'c, R: Wait>(
     (first, second)
 }
 
-/// The rounds of both halves at once.
+/// Makes the rounds of both halves at the same time, on two threads.
 fn at_once<'a, 'b, 'c, R: Threads + Wait + Sync>(
     rt: &R,
     exchange: &Exchange<'a>,
@@ -119,8 +121,8 @@ fn at_once<'a, 'b, 'c, R: Threads + Wait + Sync>(
     (first, second)
 }
 
-/// The rounds of both halves over an exchange of the link, at once or in turn: the link behind them, and
-/// what the last meetings answer, where there was memory for an exchange.
+/// Makes the rounds of both halves over an exchange of the link, at the same time or in turn. Returns
+/// the link after them, and the answers of the last meetings if there was memory for an exchange.
 fn over_exchange<R: Threads + Wait + Sync>(
     rt: &R,
     alloc: Global,
@@ -140,11 +142,11 @@ fn over_exchange<R: Threads + Wait + Sync>(
         }
     };
     let answers = by_threads(rt, &exchange, &mut one, &mut two, parent, child, threads);
-    halves_fit_behind_more();
+    halves_fit_after_more();
     (exchange.close(one, two), Some(answers))
 }
 
-/// The rounds of both halves, at once on two threads or in turn on one.
+/// Makes the rounds of both halves, at the same time on two threads or in turn on one.
 fn by_threads<'a, 'b, 'c, R: Threads + Wait + Sync>(
     rt: &R,
     exchange: &Exchange<'a>,
@@ -166,7 +168,7 @@ fn by_threads<'a, 'b, 'c, R: Threads + Wait + Sync>(
     }
 }
 
-/// The run of a world over an exchange, and what the last meetings answer.
+/// Runs a world over an exchange. Returns it with the answers of the last meetings.
 fn run_apart<'s, R: Threads + Wait + Sync>(
     rt: &R,
     alloc: Global,
@@ -178,7 +180,7 @@ fn run_apart<'s, R: Threads + Wait + Sync>(
     (World::join(parent, child, link), answers)
 }
 
-/// What a meeting answers, in a word.
+/// Returns the answer of a meeting as a word.
 fn word_of(answer: MeetAnswer) -> &'static str {
     match answer {
         MeetAnswer::Moved(_) => "moved",
@@ -188,7 +190,7 @@ fn word_of(answer: MeetAnswer) -> &'static str {
     }
 }
 
-/// What the last meetings answer, in words.
+/// Returns the answers of the last meetings as words.
 fn words_of(answers: Option<(MeetAnswer, MeetAnswer)>) -> (&'static str, &'static str) {
     match answers {
         Some((first, second)) => (word_of(first), word_of(second)),
@@ -196,7 +198,7 @@ fn words_of(answers: Option<(MeetAnswer, MeetAnswer)>) -> (&'static str, &'stati
     }
 }
 
-/// What the run of a world prints behind the closing turns, and whether these added a line.
+/// Returns what the run of a world prints after the closing turns, and whether these added a line.
 fn ended(alloc: Global, schema: &Schema, world: &mut World<'_>) -> Result<(String, bool), Fail>
     requires { IsSound schema.now }
 {
@@ -206,8 +208,8 @@ fn ended(alloc: Global, schema: &Schema, world: &mut World<'_>) -> Result<(Strin
     Ok((printed(alloc, schema, world, ending)?, added))
 }
 
-/// What the last meetings of the race answer, whether it is one behind the closing turns, and whether
-/// these added no line.
+/// Returns the answers of the last meetings of the race, whether the run is one of the race after the
+/// closing turns, and whether these added no line.
 fn pair<R: Threads + Wait + Sync>(
     rt: &R,
     alloc: Global,

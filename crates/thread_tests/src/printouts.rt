@@ -1,3 +1,5 @@
+//! What a run prints, with a test of all laws.
+
 ghost use Rattle.ipdl_base.specs.Sound.{IsSound};
 
 use history::History;
@@ -16,7 +18,7 @@ const LAWS: &[Law] = &[
     Law::Fallen,
 ];
 
-/// Whether all laws hold of a history.
+/// Returns whether all laws hold of a history.
 fn is_lawful(alloc: Global, schema: &Schema, history: &History) -> Result<bool, AllocError>
     requires { IsSound schema.now }
 {
@@ -28,7 +30,7 @@ fn is_lawful(alloc: Global, schema: &Schema, history: &History) -> Result<bool, 
     Ok(true)
 }
 
-/// The last line of what a run prints.
+/// Returns the last line of what a run prints.
 fn ending_of(answer: RunAnswer) -> &'static str {
     match answer {
         RunAnswer::Finished => "finished",
@@ -38,7 +40,8 @@ fn ending_of(answer: RunAnswer) -> &'static str {
     }
 }
 
-/// What the run of a world prints that ended so, with a last line `unlawful` where a law does not hold.
+/// Returns what the run of a world prints that ended with this answer, with a last line `unlawful` if a
+/// law does not hold.
 pub fn printed(
     alloc: Global,
     schema: &Schema,
@@ -56,7 +59,7 @@ pub fn printed(
     Ok(text)
 }
 
-/// How many lines of a text are this one.
+/// Returns how many lines of a text are equal to this one.
 pub fn count_of(text: &str, wanted: &str) -> u32 {
     let mut count = 0u32;
     for line in text.lines() {
@@ -67,7 +70,7 @@ pub fn count_of(text: &str, wanted: &str) -> u32 {
     count
 }
 
-/// Whether each side's call of the race was answered once, and the run finished.
+/// Returns whether each side's call of the race was answered once, and the run finished.
 pub fn is_run_race(text: &str) -> bool {
     count_of(text, "parent resume 1 ok (20)") == 1
         && count_of(text, "child resume -1 ok (10)") == 1

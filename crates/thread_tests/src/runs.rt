@@ -1,3 +1,5 @@
+//! Whole runs on two threads.
+
 ghost use Rattle.std.specs.Prelude.{◌≤◌};
 ghost use Rattle.ipdl_base.specs.Sound.{IsSound};
 ghost use Rattle.handler_script.specs.Valid.{IsValid};
@@ -13,7 +15,7 @@ use std::thread::Threads;
 use thread_link::{Gate, TwoThreads};
 use world_core::{Driver, Stop, World};
 
-/// What a run of a script prints whose sides go on at once.
+/// Returns what a run of a script prints whose sides run at the same time.
 fn run<R: Threads + Wait + Sync + AllocGlobal>(
     rt: &R,
     schema: &Schema,
@@ -33,7 +35,7 @@ fn run<R: Threads + Wait + Sync + AllocGlobal>(
     text
 }
 
-/// How many of so many runs of the race are runs of it.
+/// Returns how many of this number of runs of the race are as they should be.
 fn races<R: Threads + Wait + Sync + AllocGlobal>(
     rt: &R,
     schema: &Schema,
@@ -61,7 +63,7 @@ fn race_two_hundred_times(rt: HostRuntime) -> Result<(), Fail> {
     Ok(())
 }
 
-/// How many of so many runs finish lawfully, in which each side makes so many calls.
+/// Returns how many of `count` runs, in which each side makes `calls` calls, finish and obey all laws.
 fn long_runs<R: Threads + Wait + Sync + AllocGlobal>(
     rt: &R,
     schema: &Schema,
@@ -85,7 +87,7 @@ fn long_runs<R: Threads + Wait + Sync + AllocGlobal>(
     Ok(good)
 }
 
-/// How many calls of a text were answered with values.
+/// Returns how many calls of a text were answered with values.
 fn ok_lines(text: &str) -> u32 {
     let mut count = 0u32;
     for line in text.lines() {
@@ -106,8 +108,8 @@ fn five_hundred_calls_a_side(rt: HostRuntime) -> Result<(), Fail> {
     Ok(())
 }
 
-/// How many runs of the race finish lawfully in which a side dies behind so many events or fewer, and
-/// in how many of them it dies.
+/// Returns how many runs of the race finish and obey all laws if a side dies after fewer than `most`
+/// events, for each such number, and in how many of them it dies.
 fn deaths<R: Threads + Wait + Sync + AllocGlobal>(
     rt: &R,
     schema: &Schema,

@@ -15,24 +15,24 @@ use Rattle.ipdl_syntax.specs.Grammar.{message, messages, MessageSection, section
 use Rattle.tree_reader.specs.declared.symbol.Symbol.{Symbol}
 use Rattle.tree_reader.specs.declared.symbol.Symbol.TheVariants.{Word, OpenBracket, Async, Sync, Parent, Child, Both, CloseBrace, Colon, Semicolon, Manager, Manages, Or}
 use Rattle.tree_reader.specs.Symbols.{first_symbol}
-use Rattle.tree_reader.specs.Machine.{Form, take, messaged, managing, more_managing, behind, production, section_begins}
+use Rattle.tree_reader.specs.Machine.{Form, take, messaged, managing, more_managing, following, production, section_begins}
 use Rattle.tree_reader.specs.Reading.{Turns, IsNext, IsNextAt, begins_message, direction_of, IsSectioned, AddsMessages, AreSections, AddsManagers, AddsStatements, IsBody}
 use Rattle.tree_reader.proofs.Turns.{split_turn, turn, turns, same_turn, is_spelled, fewer_of}
 use Rattle.tree_reader.proofs.ParamTurns.{moved, then_past}
 
 -- The messages of a section
 
--- the messages so far, with any that go on from here
+-- the messages so far, with any that follow from here
 abbrev pub MessagesGoOn : Direction → List MessageDecl → List MessageDecl → List Token → List Token → Type 0
 MessagesGoOn d old so_far start from = (more : List MessageDecl) (to : List Token) → messages d more from to → AddsMessages d old (so_far ++ more) start to
 
--- the messages so far are read, and behind them more may come
+-- the messages so far are read, and after them more may come
 pub record ReadMessages (d : Direction) (old so_far : List MessageDecl) (start from : List Token) : Type 0 where
   pub read : MessagesGoOn d old so_far start from
   pub turns : Turns (messaged d ∷ []) start (messaged d ∷ []) from
   pub fewer : length from ≤ length start
 
--- one message more
+-- one more message
 pub more_messages : (d : Direction) (m : MessageDecl) (old so_far all : List MessageDecl) (start from to : List Token) → all ≡ so_far ++ m ∷ [] → ReadMessages d old so_far start from → message d m from to → Turns (messaged d ∷ []) from (messaged d ∷ []) to → length to < length from → ReadMessages d old all start to
 more_messages d m old so_far all start from to is before one turn less = record {
   read = subst (λ (x : List MessageDecl). MessagesGoOn d old x start to) (sym is) (λ more end rest. rw append_assoc (before.read (m ∷ more) end (to, one, rest)));
@@ -53,7 +53,7 @@ end_of_messages d Async is = absurd (cc)
 end_of_messages d Sync is = absurd (cc)
 end_of_messages d _ is = refl
 
--- behind the messages of a section another may come, or the end of the protocol
+-- after the messages of a section another may come, or the end of the protocol
 pub sectioned : (d : Direction) (from : List Token) → begins_message (first_symbol from) ≡ false → IsSectioned (messaged d) from
 sectioned d from is = end_of_messages d (first_symbol from) is
 
@@ -63,8 +63,8 @@ section_table Child d is = let e : direction.Child ≡ d = cc in ap (λ (x : Dir
 section_table Both d is = let e : direction.Both ≡ d = cc in ap (λ (x : Direction). Some (take Colon ∷ messaged x ∷ [])) e
 section_table _ d is = absurd (cc)
 
--- where no section begins, the end of the protocol is wanted
-close_table : (s : Symbol) → direction_of s ≡ None → section_begins s ≡ behind (production (take CloseBrace) s) (take Semicolon ∷ [])
+-- where no section begins, the end of the protocol is expected
+close_table : (s : Symbol) → direction_of s ≡ None → section_begins s ≡ following (production (take CloseBrace) s) (take Semicolon ∷ [])
 unfolding production
 close_table Parent is = absurd (cc)
 close_table Child is = absurd (cc)
@@ -85,29 +85,29 @@ word_of _ d from to is here = absurd (cc)
 placed : (s : Symbol) (place : Place) (from to : List Token) → IsNextAt s place from to → IsNext s from to
 placed s place from to (t, here, (is, there)) = (t, here, is)
 
--- the form that is wanted behind the sections so far
+-- the form that is expected after the sections so far
 pub record Goes (f : Form) (start from : List Token) : Type 0 where
   pub form : Form
   pub may : IsSectioned form from
   pub turns : Turns (f ∷ []) start (form ∷ []) from
 
--- the sections so far, with any that go on from here
+-- the sections so far, with any that follow from here
 abbrev pub SectionsGoOn : List MessageDecl → List Token → List Token → Type 0
 SectionsGoOn so_far start from = (more : List MessageSection) (to : List Token) → sections more from to → AreSections (so_far ++ flat_map (λ s. s.messages) more) start to
 
--- the sections so far are read, and behind them more may come
+-- the sections so far are read, and after them more may come
 pub record ReadSections (so_far : List MessageDecl) (start from : List Token) : Type 0 where
   pub read : SectionsGoOn so_far start from
   pub goes : (f : Form) → IsSectioned f start → Goes f start from
   pub fewer : length from ≤ length start
 
--- behind the word of one more
+-- after the word of one more section
 pub section_word : (d : Direction) (place : Place) (f : Form) (start from one : List Token) → direction_of (first_symbol from) ≡ Some d → Goes f start from → IsNextAt (first_symbol from) place from one → Turns (f ∷ []) start (take Colon ∷ messaged d ∷ []) one
 section_word d place f start from one is before here =
     turns (f ∷ []) (before.form ∷ []) (take Colon ∷ messaged d ∷ []) start from one before.turns
     (turn before.form (first_symbol from) (take Colon ∷ messaged d ∷ []) from one (placed (first_symbol from) place from one here) (before.may ∙ section_table (first_symbol from) d is))
 
--- behind its colon
+-- after its colon
 pub section_colon : (d : Direction) (place : Place) (f : Form) (start from one two : List Token) → direction_of (first_symbol from) ≡ Some d → Goes f start from → IsNextAt (first_symbol from) place from one → Turns (take Colon ∷ []) one [] two → Turns (f ∷ []) start (messaged d ∷ []) two
 section_colon d place f start from one two is before here colon =
     then_past (f ∷ []) (take Colon) (messaged d ∷ []) start one two (section_word d place f start from one is before here) colon
@@ -117,7 +117,7 @@ section_adds d so_far all ms start from one two to is before word colon inner =
     subst (λ (x : List MessageDecl). SectionsGoOn x start to) (sym is)
     (λ more end rest. rw append_assoc (before ((record { direction = d; messages = ms }) ∷ more) end (to, (one, word, (two, colon, inner)), rest)))
 
--- one section more
+-- one more section
 pub more_sections : (d : Direction) (place : Place) (so_far all : List MessageDecl) (start from one two to : List Token) → direction_of (first_symbol from) ≡ Some d → ReadSections so_far start from → IsNextAt (first_symbol from) place from one → mark (codes ":") one two → Turns (take Colon ∷ []) one [] two → AddsMessages d so_far all two to → begins_message (first_symbol to) ≡ false → Turns (messaged d ∷ []) two (messaged d ∷ []) to → length two < length one → length to ≤ length two → ReadSections all start to
 more_sections d place so_far all start from one two to is before here colon colon_turn adds none inner_turn less fewer = record {
   read = section_adds d so_far all adds.0 start from one two to adds.1 before.read (word_of (first_symbol from) d from one is (placed (first_symbol from) place from one here)) colon adds.2;
@@ -149,17 +149,17 @@ unfolding production
 last_table Or n = absurd (n refl)
 last_table _ n = refl
 
--- the managers so far, with any that go on from here
+-- the managers so far, with any that follow from here
 abbrev pub ManagersGoOn : List NameAt → List NameAt → List Token → List Token → Type 0
 ManagersGoOn old so_far start from = (more : List NameAt) (to : List Token) → (more_managers more ⨾ mark (codes ";")) from to → AddsManagers old (so_far ++ more) start to
 
--- the managers so far are read, and behind them more may come
+-- the managers so far are read, and after them more may come
 pub record ReadManagers (old so_far : List NameAt) (start from : List Token) : Type 0 where
   pub read : ManagersGoOn old so_far start from
   pub turns : Turns (more_managing ∷ []) start (more_managing ∷ []) from
   pub fewer : length from ≤ length start
 
--- behind the `or` of one more
+-- after the `or` of one more
 pub managers_or : (old so_far : List NameAt) (start from one : List Token) → ReadManagers old so_far start from → IsNext Or from one → Turns (more_managing ∷ []) start (take Word ∷ more_managing ∷ []) one
 managers_or old so_far start from one before here =
     turns (more_managing ∷ []) (more_managing ∷ []) (take Word ∷ more_managing ∷ []) start from one before.turns (turn more_managing Or (take Word ∷ more_managing ∷ []) from one here or_table)
@@ -167,7 +167,7 @@ managers_or old so_far start from one before here =
 managers_go : (n : NameAt) (old so_far : List NameAt) (start from one two : List Token) → ManagersGoOn old so_far start from → reserved (codes "or") from one → identifier n.name n.place one two → ManagersGoOn old (so_far ++ n ∷ []) start two
 managers_go n old so_far start from one two before or word = λ more to (between, names, close). rw append_assoc (before (n ∷ more) to (between, (one, or, (two, word, names)), close))
 
--- one manager more
+-- one more manager
 pub managers_add : (n : NameAt) (old so_far all : List NameAt) (start from one two : List Token) → all ≡ so_far ++ n ∷ [] → ReadManagers old so_far start from → IsNext Or from one → identifier n.name n.place one two → Turns (take Word ∷ []) one [] two → length two < length one → ReadManagers old all start two
 managers_add n old so_far all start from one two is before here word turn less = record {
   read = subst (λ (x : List NameAt). ManagersGoOn old x start two) (sym is) (managers_go n old so_far start from one two before.read (is_spelled Or from one here) word);
@@ -257,13 +257,13 @@ added_join m0 m1 m2 g0 g1 g2 from middle to one two = record {
   managed = names_join managed_of one.all two.all g0 g1 g2 one.managed two.managed;
 }
 
--- the statements so far are read, and behind them more may come
+-- the statements so far are read, and after them more may come
 pub record ReadStatements (managers managed : List NameAt) (start from : List Token) : Type 0 where
   pub read : AddsStatements [] managers [] managed start from
   pub turns : Turns (managing ∷ []) start (managing ∷ []) from
   pub fewer : length from ≤ length start
 
--- one statement more, or none
+-- one more statement, or no statement
 pub more_statements : (m1 m2 g1 g2 : List NameAt) (start from to : List Token) → ReadStatements m1 g1 start from → AddsStatements m1 m2 g1 g2 from to → Turns (managing ∷ []) from (managing ∷ []) to → length to ≤ length from → ReadStatements m2 g2 start to
 more_statements m1 m2 g1 g2 start from to before one turn fewer = record {
   read = added_join [] m1 m2 [] g1 g2 start from to before.read one;

@@ -11,18 +11,18 @@ use Rattle.tree_reader.specs.declared.symbol.Symbol.{Symbol}
 use Rattle.tree_reader.specs.declared.symbol.Symbol.TheVariants.{CloseBrace, Semicolon}
 use Rattle.tree_reader.specs.Ending as ending
 use Rattle.tree_reader.specs.Symbols.{first_symbol}
-use Rattle.tree_reader.specs.Machine.{Form, behind, production, take, typed, fielded, componented}
+use Rattle.tree_reader.specs.Machine.{Form, following, production, take, typed, fielded, componented}
 use Rattle.tree_reader.specs.Reading.{Turns, Stops, IsNext, closed}
 use Rattle.tree_reader.specs.Spelling.{spelled}
-use Rattle.tree_reader.proofs.Turns.{split_turn, turn, turns, stops_before, stops_behind, is_spelled}
+use Rattle.tree_reader.proofs.Turns.{split_turn, turn, turns, stops_before, stops_after, is_spelled}
 
--- What a reader that may have skipped a token says where it did not: there was another one, and nothing is gone.
+-- The state of a reader that did not skip a token: there was another one, and nothing was taken.
 abbrev pub IsUntaken : Symbol → List Token → List Token → Type 0
 IsUntaken s from here = (first_symbol from ≢ s) × (here ≡ from)
 
 -- Fields
 
--- one more field in front of those that go on
+-- one more field before those that follow
 pub fields_more : (p : Param) (so_far more : List Param) (start from here middle to : List Token) → here ≡ from → field p here middle → fields more middle to → ((others : List Param) (end : List Token) → fields others from end → fields (so_far ++ others) start end) → fields ((so_far ++ p ∷ []) ++ more) start to
 fields_more p so_far more start from here middle to is one rest before =
     let P : List Token → Type 0 = λ x. field p x middle in
@@ -34,12 +34,12 @@ fields_closed so_far start from here to brace stop before =
     (from, rw append-nil at (before [] from refl), (here, is_spelled CloseBrace from here brace, stop))
 
 -- at any other symbol, a field begins as a type does
-field_table : (s : Symbol) → s ≢ CloseBrace → production fielded s ≡ behind (production (typed 4 ending.Name) s) (take Semicolon ∷ fielded ∷ [])
+field_table : (s : Symbol) → s ≢ CloseBrace → production fielded s ≡ following (production (typed 4 ending.Name) s) (take Semicolon ∷ fielded ∷ [])
 unfolding production
 field_table CloseBrace n = absurd (n refl)
 field_table _ n = refl
 
--- behind the closing brace the semicolon comes
+-- after the closing brace the semicolon comes
 fielded_closes : production fielded CloseBrace ≡ Some (take Semicolon ∷ [])
 unfolding production
 fielded_closes = refl
@@ -59,7 +59,7 @@ field_turned start from here to other so_far one = λ more at. field_turn start 
 -- a refused field
 pub field_stops : (start from here : List Token) (e : TreeRefusal) → IsUntaken CloseBrace from here → Turns (fielded ∷ []) start (fielded ∷ []) from → Stops (typed 4 ending.Name ∷ take Semicolon ∷ []) here e → Stops (fielded ∷ []) start e
 field_stops start from here e other so_far one =
-    stops_behind (fielded ∷ []) (typed 4 ending.Name ∷ take Semicolon ∷ fielded ∷ []) start here e (field_turn start from here other so_far) (stops_before (typed 4 ending.Name ∷ take Semicolon ∷ []) (fielded ∷ []) here e one)
+    stops_after (fielded ∷ []) (typed 4 ending.Name ∷ take Semicolon ∷ fielded ∷ []) start here e (field_turn start from here other so_far) (stops_before (typed 4 ending.Name ∷ take Semicolon ∷ []) (fielded ∷ []) here e one)
 
 -- the end of the fields
 pub fields_turn : (start from here : List Token) → IsNext CloseBrace from here → Turns (fielded ∷ []) start (fielded ∷ []) from → Turns (fielded ∷ []) start (take Semicolon ∷ []) here
@@ -67,7 +67,7 @@ fields_turn start from here brace so_far = turns (fielded ∷ []) (fielded ∷ [
 
 -- Components
 
--- one more component in front of those that go on
+-- one more component before those that follow
 pub components_more : (s : TypeSpec) (so_far more : List TypeSpec) (start from here middle to : List Token) → here ≡ from → (type_spec s ⨾ mark (codes ";")) here middle → components more middle to → ((others : List TypeSpec) (end : List Token) → components others from end → components (so_far ++ others) start end) → components ((so_far ++ s ∷ []) ++ more) start to
 components_more s so_far more start from here middle to is (a, spec, stop) rest before =
     let P : List Token → Type 0 = λ x. type_spec s x a in
@@ -79,12 +79,12 @@ components_closed so_far start from here to brace stop before =
     (from, rw append-nil at (before [] from refl), (here, is_spelled CloseBrace from here brace, stop))
 
 -- at any other symbol, a component begins as a type does
-component_table : (s : Symbol) → s ≢ CloseBrace → production componented s ≡ behind (production (typed 4 ending.Semicolon) s) (componented ∷ [])
+component_table : (s : Symbol) → s ≢ CloseBrace → production componented s ≡ following (production (typed 4 ending.Semicolon) s) (componented ∷ [])
 unfolding production
 component_table CloseBrace n = absurd (n refl)
 component_table _ n = refl
 
--- behind the closing brace the semicolon comes
+-- after the closing brace the semicolon comes
 componented_closes : production componented CloseBrace ≡ Some (take Semicolon ∷ [])
 unfolding production
 componented_closes = refl
@@ -104,7 +104,7 @@ component_turned forms start from here to other so_far one = λ more at. compone
 -- a refused component
 pub component_stops : (forms : List Form) (start from here : List Token) (e : TreeRefusal) → IsUntaken CloseBrace from here → Turns forms start (componented ∷ []) from → Stops (typed 4 ending.Semicolon ∷ []) here e → Stops forms start e
 component_stops forms start from here e other so_far one =
-    stops_behind forms (typed 4 ending.Semicolon ∷ componented ∷ []) start here e (component_turn forms start from here other so_far) (stops_before (typed 4 ending.Semicolon ∷ []) (componented ∷ []) here e one)
+    stops_after forms (typed 4 ending.Semicolon ∷ componented ∷ []) start here e (component_turn forms start from here other so_far) (stops_before (typed 4 ending.Semicolon ∷ []) (componented ∷ []) here e one)
 
 -- the end of the components
 pub components_turn : (forms : List Form) (start from here : List Token) → IsNext CloseBrace from here → Turns forms start (componented ∷ []) from → Turns forms start (take Semicolon ∷ []) here

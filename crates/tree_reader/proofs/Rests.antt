@@ -20,12 +20,12 @@ before_more d rest a b e = ap (λ (r : Declarations). d & r) e ∙ sym (and_asso
 split_again : (rest a b c d : Declarations) → rest ≡ (a & b) → b ≡ (c & d) → rest ≡ ((a & c) & d)
 split_again rest a b c d e f = e ∙ ap (λ (r : Declarations). a & r) f ∙ sym (and_assoc a c d)
 
--- what a namespace round the protocol holds
+-- the content of a namespace around the protocol
 round_split : (rest a b c d e : Declarations) → rest ≡ (a & b & c & d) → d ≡ e → rest ≡ ((a & b & c) & e)
 round_split rest a b c d e f g =
     f ∙ ap (λ (r : Declarations). a & b & c & r) g ∙ ap (λ (r : Declarations). a & r) (sym (and_assoc b c e)) ∙ sym (and_assoc a (b & c) e)
 
--- These declarations stand between the one tokens and the other, in the open namespaces.
+-- These declarations are between the first tokens and the other ones, in the open namespaces.
 pub record Prepends (path : List (List ℕ)) (d : Declarations) (from to : List Token) : Type 0 where
   pub when_closed : (rest : Declarations) → ClosedRest path rest to → ClosedRest path (d & rest) from
   pub when_open : (rest : Declarations) (p : ProtocolDecl) → OpenRest path rest p to → OpenRest path (d & rest) p from
@@ -90,7 +90,7 @@ include_before i from to d = record { when_closed = include_closed i from to d; 
 
 -- a namespace
 
--- the begin of a namespace
+-- the beginning of a namespace
 abbrev pub Opens : List ℕ → Part
 Opens name = reserved (codes "namespace") ⨾ word name ⨾ mark (codes "{")
 

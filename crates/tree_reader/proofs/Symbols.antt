@@ -1,4 +1,4 @@
--- What the symbol of a token says of the token.
+-- What the symbol of a token means for the token.
 use Rattle.std.proofs.Common.{◌≡◌, ℕ, Bool, true, false, cond, ◌⊎◌, inl, inr, List, Option, Some, None, codes, refl, sym, ap, subst, ◌∙◌}
 use Rattle.std.specs.Str.{bytes_eq}
 use Rattle.std.proofs.lemmas.Slice.Eq.{bytes_eq-Decides}
@@ -49,7 +49,7 @@ word_spelling UniquePtr = Some (codes "UniquePtr")
 word_spelling Using = Some (codes "using")
 word_spelling _ = None
 
--- a symbol that is chosen by a text: it is the last one, or the text is its own
+-- a symbol that is chosen by a text: it is the last one, or the text is that of the symbol
 abbrev Chosen : (Symbol → Option (List ℕ)) → Symbol → List ℕ → Symbol → Type 0
 Chosen spell last text s = (s ≡ last) ⊎ (spell s ≡ Some text)
 
@@ -276,7 +276,7 @@ mark_of t text h = ap (λ (k : TokenKind). symbol_of k t.text) h.0 ∙ ap mark_s
 word_of : (t : Token) (text : List ℕ) → (t.kind ≡ kind.Reserved) × (t.text ≡ text) → symbol t ≡ word_symbol text
 word_of t text h = ap (λ (k : TokenKind). symbol_of k t.text) h.0 ∙ ap word_symbol h.1
 
--- a token of which this holds has this symbol
+-- a token with this property has this symbol
 pub is_word : (t : Token) → t.kind ≡ kind.Word → symbol t ≡ Word
 is_word t h = ap (λ (k : TokenKind). symbol_of k t.text) h
 

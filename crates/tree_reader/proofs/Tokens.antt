@@ -98,7 +98,7 @@ take_other UniquePtr UniquePtr n o = absurd (o refl)
 take_other Using Using n o = absurd (o refl)
 take_other _ _ n o = refl
 
--- a token that is no mark is a value
+-- a token that is not a mark is a value
 pub any_word_table : (s : Symbol) (t : Token) → symbol t ≡ s → t.kind ≢ kind.Mark → production any_word s ≡ Some []
 unfolding production
 any_word_table End t is k = absurd (means t End is)
@@ -181,7 +181,7 @@ mark_table Union t is k = absurd (cc (means t Union is).0)
 mark_table UniquePtr t is k = absurd (cc (means t UniquePtr is).0)
 mark_table Using t is k = absurd (cc (means t Using is).0)
 
--- a token of the wanted symbol is taken
+-- a token of the expected symbol is taken
 pub taken : (s : Symbol) (from to : List Token) → s ≢ End → IsNext s from to → Turns (take s ∷ []) from [] to
 taken s from to n here = turn (take s) s [] from to here (take_table s n)
 
@@ -197,12 +197,12 @@ is_identifier s name place from to e (t, here, (is, text, at)) = (t, here, (mean
 pub word_taken : (from : List Token) (t : Token) (to : List Token) → from ≡ t ∷ to → t.kind ≢ kind.Mark → Turns (any_word ∷ []) from [] to
 word_taken from t to here k = turn any_word (symbol t) [] from to (t, here, refl) (any_word_table (symbol t) t refl k)
 
--- a mark is refused where any word is wanted
+-- a mark is refused where any word is expected
 pub mark_refused : (from : List Token) (t : Token) (to : List Token) (e : TreeRefusal) → from ≡ t ∷ to → t.kind ≡ kind.Mark → e ≡ Left (length from) → Stops (any_word ∷ []) from e
 mark_refused from t to e here k is =
     refused any_word from e (subst (λ (x : List Token). production any_word (first_symbol x) ≡ None) (sym here) (mark_table (symbol t) t refl k)) is
 
--- so is the end
+-- the same of the end
 end_has_none : (from : List Token) → length from ≡ 0 → production any_word (first_symbol from) ≡ None
 unfolding production
 end_has_none [] n = refl

@@ -1,4 +1,4 @@
--- What stands behind a type: the name of a parameter or a field, a semicolon, or the `>` of `UniquePtr`.
+-- What follows a type: the name of a parameter or a field, a semicolon, or the `>` of `UniquePtr`.
 pub data Ending : Type 0 where
   Name : Ending
   Semicolon : Ending

@@ -1,4 +1,5 @@
--- The machine that takes a file's tokens, one after another. It stands on what is still to come: forms, and behind them the rest of the file.
+-- The machine that takes a file's tokens, one after another. Its state is what is still to come: forms, and then the
+-- rest of the file.
 use Rattle.std.specs.Prelude.{ℕ, ◌+◌, ◌-◌, Bool, true, false, ◌&&◌, ◌==◌, not, nat_lt, cond, List, [], ◌∷◌, ◌++◌, length, Option, Some, None}
 use Rattle.ipdl_base.specs.declared.kinds.Direction.{Direction}
 use Rattle.ipdl_base.specs.declared.kinds.Direction.TheVariants as direction
@@ -11,55 +12,55 @@ use Rattle.tree_reader.specs.declared.symbol.Symbol.{Symbol}
 use Rattle.tree_reader.specs.declared.symbol.Symbol.TheVariants.{End, Word, Quoted, OtherWord, OtherMark, Colons, OpenBrace, CloseBrace, OpenParen, CloseParen, OpenBracket, CloseBracket, Less, Greater, Semicolon, Comma, Colon, Equals, Question, Async, Both, Child, Class, From, Include, Manager, Manages, Namespace, Nullable, Or, Parent, Protocol, Returns, Struct, Sync, Union, UniquePtr, Using}
 use Rattle.tree_reader.specs.Symbols.{symbol}
 
--- What may be still to come. Each form ends with the mark or the word that ends it.
+-- What may still be to come. Each form ends with the mark or the word that ends it.
 pub data Form : Type 0 where
   -- one token
   take : Symbol → Form
   -- the value of an attribute
   any_word : Form
-  -- the argument of a name, behind its `<`, and the same behind a word of it
+  -- the argument of a name after its `<`, and the same after a word of it
   argument_name : Form
   argument_words : Form
-  -- at most so many suffixes, and what ends the type
+  -- at most this number of suffixes, and what ends the type
   suffixed : ℕ → Ending → Form
-  -- a type behind a word of its name
+  -- a type after a word of its name
   named : Ending → Form
-  -- a type without `nullable`, and a type, with room for so many `UniquePtr`
+  -- a type without `nullable`, and a type, with room for this number of nested `UniquePtr`
   based : ℕ → Ending → Form
   typed : ℕ → Ending → Form
-  -- attributes behind the `[` or a comma, the same behind the name of one, and behind one
+  -- attributes after the `[` or a comma, the same after the name of an attribute, and after an attribute
   attributed : Form
-  behind_attribute : Form
+  after_attribute : Form
   more_attributed : Form
-  -- a parameter; parameters behind the `(`, and behind one of them
+  -- a parameter; parameters after the `(`, and after one of them
   one_param : Form
   parameters : Form
   more_parameters : Form
-  -- a message behind its parameters, and behind its attributes
-  behind_parameters : Form
+  -- a message after its parameters, and after its attributes
+  after_parameters : Form
   one_message : Form
-  -- a protocol from a message of a section on, from its first statement on, and managers behind one of them
+  -- a protocol from a message of a section on, from its first statement on, and managers after one of them
   messaged : Direction → Form
   managing : Form
   more_managing : Form
   -- fields and components
   fielded : Form
   componented : Form
-  -- a using from its name, or the word before it, on; from its name on; and behind a word of its name
+  -- a using from its name, or the word before it, on; from its name on; and after a word of its name
   using_named : Form
   using_word : Form
-  behind_using : Form
-  -- what an include names
+  after_using : Form
+  -- the name of an include
   include_named : Form
 
--- the symbol that a form of one token wants; the end is no token
+-- the symbol that a form of one token requires; the end is not a token
 abbrev pub proper : Symbol → Symbol
 proper End = Word
 proper s = s
 
-abbrev pub behind : Option (List Form) → List Form → Option (List Form)
-behind None more = None
-behind (Some forms) more = Some (forms ++ more)
+abbrev pub following : Option (List Form) → List Form → Option (List Form)
+following None more = None
+following (Some forms) more = Some (forms ++ more)
 
 abbrev pub provided_that : Bool → List Form → Option (List Form)
 provided_that true forms = Some forms
@@ -91,8 +92,8 @@ param_begins OpenBracket = Some (attributed ∷ typed 4 ending.Name ∷ [])
 param_begins s = type_begins 4 ending.Name s
 
 abbrev pub message_begins : Symbol → Option (List Form)
-message_begins Async = Some (take Word ∷ take OpenParen ∷ parameters ∷ behind_parameters ∷ [])
-message_begins Sync = Some (take Word ∷ take OpenParen ∷ parameters ∷ behind_parameters ∷ [])
+message_begins Async = Some (take Word ∷ take OpenParen ∷ parameters ∷ after_parameters ∷ [])
+message_begins Sync = Some (take Word ∷ take OpenParen ∷ parameters ∷ after_parameters ∷ [])
 message_begins _ = None
 
 abbrev pub section_begins : Symbol → Option (List Form)
@@ -102,7 +103,8 @@ section_begins Both = Some (take Colon ∷ messaged direction.Both ∷ [])
 section_begins CloseBrace = Some (take Semicolon ∷ [])
 section_begins _ = None
 
--- What a form becomes behind a first token with this symbol: what is still to come then. None where it has no such first token.
+-- What is still to come of a form after a first token with this symbol, or None if the form does not begin with such
+-- a token.
 unfoldable pub production : Form → Symbol → Option (List Form)
 production (take End) Word = Some []
 production (take Word) Word = Some []
@@ -177,28 +179,28 @@ production (named e) Less = Some (argument_name ∷ suffixed 4 e ∷ [])
 production (named e) s = suffix_begins 4 e s
 production (based room e) s = base_begins room e s
 production (typed room e) s = type_begins room e s
-production attributed Word = Some (behind_attribute ∷ [])
+production attributed Word = Some (after_attribute ∷ [])
 production attributed _ = None
-production behind_attribute Equals = Some (any_word ∷ more_attributed ∷ [])
-production behind_attribute Comma = Some (attributed ∷ [])
-production behind_attribute CloseBracket = Some []
-production behind_attribute _ = None
+production after_attribute Equals = Some (any_word ∷ more_attributed ∷ [])
+production after_attribute Comma = Some (attributed ∷ [])
+production after_attribute CloseBracket = Some []
+production after_attribute _ = None
 production more_attributed Comma = Some (attributed ∷ [])
 production more_attributed CloseBracket = Some []
 production more_attributed _ = None
 production one_param s = param_begins s
 production parameters CloseParen = Some []
-production parameters s = behind (param_begins s) (more_parameters ∷ [])
+production parameters s = following (param_begins s) (more_parameters ∷ [])
 production more_parameters Comma = Some (one_param ∷ more_parameters ∷ [])
 production more_parameters CloseParen = Some []
 production more_parameters _ = None
-production behind_parameters Returns = Some (take OpenParen ∷ parameters ∷ take Semicolon ∷ [])
-production behind_parameters Semicolon = Some []
-production behind_parameters _ = None
+production after_parameters Returns = Some (take OpenParen ∷ parameters ∷ take Semicolon ∷ [])
+production after_parameters Semicolon = Some []
+production after_parameters _ = None
 production one_message s = message_begins s
 production (messaged d) OpenBracket = Some (attributed ∷ one_message ∷ messaged d ∷ [])
-production (messaged d) Async = Some (take Word ∷ take OpenParen ∷ parameters ∷ behind_parameters ∷ messaged d ∷ [])
-production (messaged d) Sync = Some (take Word ∷ take OpenParen ∷ parameters ∷ behind_parameters ∷ messaged d ∷ [])
+production (messaged d) Async = Some (take Word ∷ take OpenParen ∷ parameters ∷ after_parameters ∷ messaged d ∷ [])
+production (messaged d) Sync = Some (take Word ∷ take OpenParen ∷ parameters ∷ after_parameters ∷ messaged d ∷ [])
 production (messaged d) s = section_begins s
 production managing Manager = Some (take Word ∷ more_managing ∷ managing ∷ [])
 production managing Manages = Some (take Word ∷ take Semicolon ∷ managing ∷ [])
@@ -207,25 +209,26 @@ production more_managing Or = Some (take Word ∷ more_managing ∷ [])
 production more_managing Semicolon = Some []
 production more_managing _ = None
 production fielded CloseBrace = Some (take Semicolon ∷ [])
-production fielded s = behind (type_begins 4 ending.Name s) (take Semicolon ∷ fielded ∷ [])
+production fielded s = following (type_begins 4 ending.Name s) (take Semicolon ∷ fielded ∷ [])
 production componented CloseBrace = Some (take Semicolon ∷ [])
-production componented s = behind (type_begins 4 ending.Semicolon s) (componented ∷ [])
+production componented s = following (type_begins 4 ending.Semicolon s) (componented ∷ [])
 production using_named Class = Some (using_word ∷ [])
 production using_named Struct = Some (using_word ∷ [])
-production using_named Word = Some (behind_using ∷ [])
+production using_named Word = Some (after_using ∷ [])
 production using_named _ = None
-production using_word Word = Some (behind_using ∷ [])
+production using_word Word = Some (after_using ∷ [])
 production using_word _ = None
-production behind_using Colons = Some (take Word ∷ behind_using ∷ [])
-production behind_using Less = Some (argument_name ∷ take From ∷ take Quoted ∷ take Semicolon ∷ [])
-production behind_using From = Some (take Quoted ∷ take Semicolon ∷ [])
-production behind_using _ = None
+production after_using Colons = Some (take Word ∷ after_using ∷ [])
+production after_using Less = Some (argument_name ∷ take From ∷ take Quoted ∷ take Semicolon ∷ [])
+production after_using From = Some (take Quoted ∷ take Semicolon ∷ [])
+production after_using _ = None
 production include_named Protocol = Some (take Word ∷ take Semicolon ∷ [])
 production include_named Word = Some (take Semicolon ∷ [])
 production include_named Quoted = Some (take Semicolon ∷ [])
 production include_named _ = None
 
--- Where a file stands between its declarations: whether the protocol may still come, how many namespaces are open, and whether attributes have just stood.
+-- The state of a file between its declarations: whether the protocol may still come, the number of open namespaces,
+-- and whether attributes came just before.
 pub data FileState : Type 0 where
   stand : Bool → ℕ → Bool → FileState
 
@@ -233,7 +236,8 @@ abbrev pub stepped : Bool → List Form → FileState → Option (List Form × F
 stepped true forms to = Some (forms, to)
 stepped false forms to = None
 
--- the words that begin a declaration where no attributes stand before it, or attributes, or a namespace's end, and what comes behind them
+-- what begins a declaration without attributes before it: its words, attributes, or a namespace's end; and what comes
+-- after that
 abbrev pub bare_step : Bool → ℕ → Symbol → Option (List Form × FileState)
 bare_step may depth OpenBracket = Some (attributed ∷ [], stand may depth true)
 bare_step may depth Include = stepped (depth == 0) (include_named ∷ []) (stand may depth false)
@@ -245,7 +249,7 @@ abbrev pub unheaded_step : Bool → Bool → ℕ → Symbol → Option (List For
 unheaded_step true may depth s = None
 unheaded_step false may depth s = bare_step may depth s
 
--- the words that begin a declaration, and what comes behind them
+-- the words that begin a declaration, and what comes after them
 unfoldable pub step : FileState → Symbol → Option (List Form × FileState)
 step (stand may depth headed) Struct = Some (take Word ∷ take OpenBrace ∷ fielded ∷ [], stand may depth false)
 step (stand may depth headed) Union = Some (take Word ∷ take OpenBrace ∷ typed 4 ending.Semicolon ∷ componented ∷ [], stand may depth false)
@@ -260,7 +264,7 @@ abbrev pub is_end : List Form → FileState → Bool
 is_end [] (stand may depth headed) = not may && ((depth == 0) && not headed)
 is_end (f ∷ forms) at = false
 
--- where a file begins
+-- the state in which a file begins
 abbrev pub begin : FileKind → FileState
 begin file_kind.Protocol = stand true 0 false
 begin file_kind.Header = stand false 0 false

@@ -1,4 +1,4 @@
--- What a reader of forms says: what it took, how the machine goes there, and where it refuses.
+-- What a reader of forms did: what it took, how the machine moved, and where it refuses.
 use Rattle.std.specs.Prelude.{◌≡◌, ◌≢◌, ℕ, ◌-◌, ◌<◌, Bool, true, false, List, [], ◌∷◌, ◌++◌, Option, Some, None, codes}
 use Rattle.std.specs.List.{flat_map}
 use Rattle.ipdl_base.specs.Words.{joined}
@@ -27,11 +27,12 @@ use Rattle.tree_reader.specs.Ending as ending
 use Rattle.tree_reader.specs.Symbols.{symbol, first_symbol}
 use Rattle.tree_reader.specs.Machine.{Form, FileState, production, refusal, section_begins, take, argument_name, suffixed, attributed}
 
--- The machine on these forms before the one tokens goes as on the other forms before the other tokens, whatever is still to come behind the forms.
+-- The machine with the first forms on the first tokens does the same as with the other forms on the other tokens,
+-- whatever is still to come after the forms.
 abbrev pub Turns : List Form → List Token → List Form → List Token → Type 0
 Turns forms from others to = (more : List Form) (at : FileState) → refusal (forms ++ more) at from ≡ refusal (others ++ more) at to
 
--- The machine on these forms refuses where so many tokens are left.
+-- The machine with these forms refuses where this number of tokens is left.
 abbrev pub Stops : List Form → List Token → TreeRefusal → Type 0
 Stops forms from (Left n) = (more : List Form) (at : FileState) → refusal (forms ++ more) at from ≡ Some n
 Stops forms from NoMemory = Unit {0}
@@ -56,15 +57,15 @@ IsAnyWord text = token (λ t. (t.kind ≢ kind.Mark) × (t.text ≡ text))
 
 -- Names
 
--- words behind a name, each behind a `::`, and the name with them
+-- words after a name, each after a `::`, and the name with them
 abbrev pub AddsWords : List ℕ → List ℕ → Part
 AddsWords old new from to = (ws : List (List ℕ)) × (new ≡ joined (old ∷ ws)) × words ws from to
 
--- Behind a word of a name, `::` and a word lead to the same form again.
+-- After a word of a name, `::` and a word lead to the same form again.
 abbrev pub IsNaming : Form → Type 0
 IsNaming f = production f symbols.Colons ≡ Some (take symbols.Word ∷ f ∷ [])
 
--- Behind a name, an argument may stand before the other forms.
+-- After a name, an argument may come before the other forms.
 abbrev pub MayHaveArgument : Form → List Form → Type 0
 MayHaveArgument f others =
     (production f symbols.Less ≡ Some (argument_name ∷ others))
@@ -72,12 +73,12 @@ MayHaveArgument f others =
 
 -- Attributes
 
--- attributes behind their `[`, to their `]`
+-- attributes after their `[`, to their `]`
 abbrev pub IsBracketed : List Attribute → Part
 IsBracketed [] from to = ⊥
 IsBracketed (a ∷ rest) from to = (attribute a ⨾ more_attributes rest ⨾ mark (codes "]")) from to
 
--- Attributes may stand before the other forms here.
+-- Attributes may come before the other forms here.
 abbrev pub MayBeHeaded : Form → List Form → List Token → Type 0
 MayBeHeaded f others tokens =
     (production f symbols.OpenBracket ≡ Some (attributed ∷ others))
@@ -85,20 +86,20 @@ MayBeHeaded f others tokens =
 
 -- Types
 
--- the symbol of what stands behind a type
+-- the symbol of what follows a type
 abbrev pub last : Ending → Symbol
 last ending.Name = symbols.Word
 last ending.Semicolon = symbols.Semicolon
 last ending.Greater = symbols.Greater
 
--- Perhaps a suffix, where there is room for one.
+-- A suffix or no suffix, with room for one.
 abbrev pub MaySuffix : Option Suffix → List Token → List Token → Type 0
 MaySuffix None from to = (from ≡ to) × (first_symbol from ≢ symbols.OpenBracket) × (first_symbol from ≢ symbols.Question)
 MaySuffix (Some s) from to = suffix s from to × ((n : ℕ) (e : Ending) → 0 < n → Turns (suffixed n e ∷ []) from (suffixed (n - 1) e ∷ []) to)
 
 -- Messages
 
--- a message behind its attributes
+-- a message after its attributes
 abbrev pub bare_message : MessageDecl → Part
 bare_message m = reserved (semantics_word m.semantics) ⨾ identifier m.name m.place ⨾ mark (codes "(") ⨾ params m.params ⨾ mark (codes ")") ⨾ returns m.returns ⨾ mark (codes ";")
 
@@ -109,7 +110,7 @@ begins_message symbols.Async = true
 begins_message symbols.Sync = true
 begins_message _ = false
 
--- messages of a section, behind those before them
+-- messages of a section, appended to the earlier ones
 abbrev pub AddsMessages : Direction → List MessageDecl → List MessageDecl → Part
 AddsMessages d old new from to = (ms : List MessageDecl) × (new ≡ old ++ ms) × messages d ms from to
 
@@ -128,11 +129,11 @@ IsSectioned f tokens = production f (first_symbol tokens) ≡ section_begins (fi
 abbrev pub AreSections : List MessageDecl → Part
 AreSections all from to = (parts : List MessageSection) × (all ≡ flat_map (λ s. s.messages) parts) × sections parts from to
 
--- managers behind one of them, to the semicolon
+-- managers after one of them, to the semicolon
 abbrev pub AddsManagers : List NameAt → List NameAt → Part
 AddsManagers old new from to = (ns : List NameAt) × (new ≡ old ++ ns) × (more_managers ns ⨾ mark (codes ";")) from to
 
--- statements, with the managers and the managed protocols behind those before them
+-- statements, with their managers and managed protocols appended to the earlier ones
 pub record AddsStatements (old_managers new_managers old_managed new_managed : List NameAt) (from to : List Token) : Type 0 where
   pub all : List Management
   pub read : managements all from to
@@ -143,7 +144,7 @@ pub record AddsStatements (old_managers new_managers old_managed new_managed : L
 abbrev pub closed : Part
 closed = mark (codes "}") ⨾ mark (codes ";")
 
--- what stands in a protocol behind its `{`, to its end
+-- the content of a protocol after its `{`, to its end
 pub record IsBody (managers managed : List NameAt) (all : List MessageDecl) (from to : List Token) : Type 0 where
   pub statements : List Management
   pub parts : List MessageSection
@@ -152,20 +153,20 @@ pub record IsBody (managers managed : List NameAt) (all : List MessageDecl) (fro
   pub messages_of_them : all ≡ flat_map (λ s. s.messages) parts
   pub read : (managements statements ⨾ sections parts ⨾ closed) from to
 
--- Declarations behind their keywords, with the attributes before them
+-- Declarations after their keywords, with the attributes before them
 
-abbrev pub IsStructBehind : List (List ℕ) → List Attribute → StructDecl → Part
-IsStructBehind scope all s = provided (s.attributes ≡ all) (declared scope s.full s.place ⨾ mark (codes "{") ⨾ fields s.fields ⨾ closed)
+abbrev pub IsStructAfter : List (List ℕ) → List Attribute → StructDecl → Part
+IsStructAfter scope all s = provided (s.attributes ≡ all) (declared scope s.full s.place ⨾ mark (codes "{") ⨾ fields s.fields ⨾ closed)
 
-abbrev pub IsUnionBehind : List (List ℕ) → List Attribute → UnionDecl → Part
-IsUnionBehind scope all u = provided (u.attributes ≡ all) (provided (u.components ≢ []) (declared scope u.full u.place ⨾ mark (codes "{") ⨾ components u.components ⨾ closed))
+abbrev pub IsUnionAfter : List (List ℕ) → List Attribute → UnionDecl → Part
+IsUnionAfter scope all u = provided (u.attributes ≡ all) (provided (u.components ≢ []) (declared scope u.full u.place ⨾ mark (codes "{") ⨾ components u.components ⨾ closed))
 
 -- the end of a using
 abbrev pub from_file : Part
 from_file = reserved (codes "from") ⨾ token (λ t. t.kind ≡ kind.Quoted) ⨾ mark (codes ";")
 
-abbrev pub IsUsingBehind : List Attribute → UsingDecl → Part
-IsUsingBehind all u = provided (u.attributes ≡ all) (either nothing (either (reserved (codes "class")) (reserved (codes "struct"))) ⨾ at u.place (foreign_name u.full) ⨾ from_file)
+abbrev pub IsUsingAfter : List Attribute → UsingDecl → Part
+IsUsingAfter all u = provided (u.attributes ≡ all) (either nothing (either (reserved (codes "class")) (reserved (codes "struct"))) ⨾ at u.place (foreign_name u.full) ⨾ from_file)
 
-abbrev pub IsProtocolBehind : List (List ℕ) → List Attribute → Semantics → ProtocolDecl → Part
-IsProtocolBehind scope all how p = provided (p.attributes ≡ all) (provided (p.semantics ≡ how) (declared scope p.full p.place ⨾ mark (codes "{") ⨾ IsBody p.managers p.manages p.messages))
+abbrev pub IsProtocolAfter : List (List ℕ) → List Attribute → Semantics → ProtocolDecl → Part
+IsProtocolAfter scope all how p = provided (p.attributes ≡ all) (provided (p.semantics ≡ how) (declared scope p.full p.place ⨾ mark (codes "{") ⨾ IsBody p.managers p.manages p.messages))

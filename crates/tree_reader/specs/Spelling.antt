@@ -1,4 +1,4 @@
--- What a symbol says of a token.
+-- What a symbol means for a token.
 use Rattle.std.specs.Prelude.{◌≡◌, codes}
 use Rattle.ipdl_base.specs.declared.token.Token.{Token}
 use Rattle.ipdl_base.specs.declared.token.TokenKind.TheVariants as kind

@@ -1,4 +1,4 @@
--- What the grammar sees of a token.
+-- The symbols of tokens.
 use Rattle.std.specs.Prelude.{ℕ, List, [], ◌∷◌, if◌then◌else◌, codes}
 use Rattle.std.specs.Str.{bytes_eq}
 use Rattle.ipdl_base.specs.declared.token.Token.{Token}

@@ -1,6 +1,8 @@
+//! Reads lists of attributes.
+
 ghost use Rattle.std.specs.Prelude.{◌≡◌, ◌<◌, ◌≤◌, IfOk, OnOk, IfErr, List, [], ◌∷◌, length};
 ghost use Rattle.ipdl_syntax.specs.Grammar.{value, attribute, attributes};
-ghost use Rattle.tree_reader.specs.Machine.{Form, attributed, behind_attribute, more_attributed};
+ghost use Rattle.tree_reader.specs.Machine.{Form, attributed, after_attribute, more_attributed};
 ghost use Rattle.tree_reader.specs.Reading.{Turns, Stops, IsBracketed, MayBeHeaded};
 
 use crate::reader::TokenReader;
@@ -10,11 +12,11 @@ use ipdl_base::{Items, Name};
 use ipdl_syntax::{Attribute, Attributes, NameAt};
 use std::alloc::Global;
 
-/// Takes the value of an attribute, where it has one.
+/// Takes the value of an attribute, if it has one.
 fn value(alloc: Global, reader: &mut TokenReader) -> Result<Option<Name>, TreeRefusal>
     ensures read { IfOk result (λ text. value text reader.old reader.new) }
-    ensures turns { OnOk result (Turns (behind_attribute ∷ []) reader.old (more_attributed ∷ []) reader.new) }
-    ensures stops { IfErr result (Stops (behind_attribute ∷ []) reader.old) }
+    ensures turns { OnOk result (Turns (after_attribute ∷ []) reader.old (more_attributed ∷ []) reader.new) }
+    ensures stops { IfErr result (Stops (after_attribute ∷ []) reader.old) }
     ensures fewer { OnOk result (length reader.new ≤ length reader.old) }
 {
     if reader.skips(Symbol::Equals) {
@@ -36,7 +38,7 @@ fn attribute(alloc: Global, reader: &mut TokenReader) -> Result<Attribute, TreeR
     Ok(Attribute { name, value, place })
 }
 
-/// Takes attributes behind their `[`, to their `]`.
+/// Takes attributes after their `[`, to their `]`.
 pub(crate) fn bracketed(alloc: Global, reader: &mut TokenReader) -> Result<Attributes, TreeRefusal>
     ensures read { IfOk result (λ all. IsBracketed all reader.old reader.new) }
     ensures turns { OnOk result (Turns (attributed ∷ []) reader.old [] reader.new) }
@@ -52,7 +54,7 @@ pub(crate) fn bracketed(alloc: Global, reader: &mut TokenReader) -> Result<Attri
     Ok(Items::from_vec(all))
 }
 
-/// Takes attributes in brackets, where there are some.
+/// Takes attributes in brackets, if there are any.
 pub(crate) fn attributes(alloc: Global, reader: &mut TokenReader) -> Result<Attributes, TreeRefusal>
     ensures read { IfOk result (λ all. attributes all reader.old reader.new) }
     ensures turns { OnOk result ((f : Form) (others : List Form) → MayBeHeaded f others reader.old → Turns (f ∷ []) reader.old others reader.new) }

@@ -1,3 +1,5 @@
+//! Reads the body of a protocol.
+
 ghost use Rattle.std.specs.Prelude.{◌≡◌, ◌≢◌, ◌<◌, ◌≤◌, IfOk, OnOk, IfErr, true, false, None, [], ◌∷◌, length};
 ghost use Rattle.tree_reader.specs.declared.symbol.Symbol.TheVariants.{CloseBrace, Colon, Semicolon};
 ghost use Rattle.tree_reader.specs.Machine.{Form, take, messaged, managing, more_managing};
@@ -12,7 +14,7 @@ use ipdl_base::{Direction, Items};
 use ipdl_syntax::{MessageDecl, MessageDecls, NameAt, NamesAt};
 use std::alloc::Global;
 
-/// Whether a message begins with this symbol.
+/// Returns whether a message begins with this symbol.
 fn begins_message(symbol: Symbol) -> bool
     ensures { result ≡ begins_message symbol }
 {
@@ -22,7 +24,7 @@ fn begins_message(symbol: Symbol) -> bool
     }
 }
 
-/// Takes the messages of a section behind its colon, and puts them behind those before them.
+/// Takes the messages of a section after its colon, and appends them to `all`.
 fn section_messages(
     alloc: Global,
     reader: &mut TokenReader,
@@ -41,7 +43,7 @@ fn section_messages(
     Ok(())
 }
 
-/// The direction of the section that begins with this symbol.
+/// Returns the direction of the section that begins with this symbol, or `None`.
 fn direction_of(symbol: Symbol) -> Option<Direction>
     ensures { result ≡ direction_of symbol }
 {
@@ -53,7 +55,7 @@ fn direction_of(symbol: Symbol) -> Option<Direction>
     }
 }
 
-/// Takes all sections of a protocol, and gives their messages.
+/// Takes all sections of a protocol, and returns their messages.
 fn sections(alloc: Global, reader: &mut TokenReader) -> Result<Vec<MessageDecl>, TreeRefusal>
     ensures read { IfOk result (λ all. AreSections all.items reader.old reader.new) }
     ensures turns { OnOk result ((f : Form) → IsSectioned f reader.old → Turns (f ∷ []) reader.old (take CloseBrace ∷ take Semicolon ∷ []) reader.new) }
@@ -69,7 +71,7 @@ fn sections(alloc: Global, reader: &mut TokenReader) -> Result<Vec<MessageDecl>,
     Ok(all)
 }
 
-/// Takes managers behind one of them, to the semicolon, and puts them behind those before them.
+/// Takes the managers after the first one, to the semicolon, and appends them to `managers`.
 fn more_managers(
     alloc: Global,
     reader: &mut TokenReader,
@@ -86,7 +88,7 @@ fn more_managers(
     reader.take(Symbol::Semicolon)
 }
 
-/// Takes a statement on who manages, where there is one, and says whether there was.
+/// Takes a statement on management if there is one, and returns whether there was.
 fn statement(
     alloc: Global,
     reader: &mut TokenReader,
@@ -113,7 +115,7 @@ fn statement(
     Ok(false)
 }
 
-/// What a protocol says behind its `{`.
+/// The content of a protocol after its `{`.
 #[derive(Drop)]
 pub(crate) struct ProtocolBody {
     pub(crate) managers: NamesAt,
@@ -121,7 +123,7 @@ pub(crate) struct ProtocolBody {
     pub(crate) messages: MessageDecls,
 }
 
-/// Takes a protocol behind its `{`.
+/// Takes the content of a protocol after its `{`.
 pub(crate) fn protocol_body(
     alloc: Global,
     reader: &mut TokenReader,

@@ -1,3 +1,5 @@
+//! Reads the fields of structs and the components of unions.
+
 ghost use Rattle.std.specs.Prelude.{◌≡◌, ◌≢◌, ◌<◌, IfOk, OnOk, IfErr, [], ◌∷◌, length, codes};
 ghost use Rattle.ipdl_syntax.specs.Grammar.{type_spec, field, fields, components};
 ghost use Rattle.ipdl_syntax.specs.Parts.{◌⨾◌, mark};
@@ -32,7 +34,7 @@ fn field(alloc: Global, reader: &mut TokenReader) -> Result<Param, TreeRefusal>
     })
 }
 
-/// Takes the fields of a struct behind its `{`, and its end.
+/// Takes the fields of a struct after its `{`, and its end.
 pub(crate) fn fields(alloc: Global, reader: &mut TokenReader) -> Result<Params, TreeRefusal>
     ensures read { IfOk result (λ fs. (fields fs ⨾ closed) reader.old reader.new) }
     ensures turns { OnOk result (Turns (fielded ∷ []) reader.old [] reader.new) }
@@ -59,7 +61,7 @@ fn component(alloc: Global, reader: &mut TokenReader) -> Result<TypeSpec, TreeRe
     Ok(spec)
 }
 
-/// Takes the components of a union behind its `{`, at least one, and its end.
+/// Takes the components of a union after its `{`, at least one, and its end.
 pub(crate) fn components(alloc: Global, reader: &mut TokenReader) -> Result<TypeSpecs, TreeRefusal>
     ensures read { IfOk result (λ cs. (components cs ⨾ closed) reader.old reader.new) }
     ensures some { IfOk result (λ cs. cs ≢ []) }

@@ -1,3 +1,5 @@
+//! Reads a file, declaration by declaration.
+
 ghost use Rattle.std.specs.Prelude.{◌≡◌, ◌≢◌, ◌<◌, ◌≤◌, IfOk, OnOk, IfErr, true, List, [], length};
 ghost use Rattle.ipdl_syntax.specs.declared.tree.Attribute.{Attribute};
 ghost use Rattle.ipdl_base.specs.declared.token.Token.{Token};
@@ -21,7 +23,7 @@ use ipdl_syntax::{
 };
 use std::alloc::Global;
 
-/// What was read of a file so far.
+/// The part of a file that was read so far.
 #[derive(Drop)]
 struct Draft {
     includes: Vec<Include>,
@@ -33,7 +35,7 @@ struct Draft {
     scope: Vec<Name>,
 }
 
-/// A draft of which nothing was read.
+/// Returns the draft of a file before anything was read.
 fn empty(alloc: Global) -> Draft
     ensures { (kind : FileKind) (tokens : List Token) → IsDraft kind tokens result tokens }
 {
@@ -47,7 +49,7 @@ fn empty(alloc: Global) -> Draft
     }
 }
 
-/// Whether the protocol may still come.
+/// Returns whether the protocol may still come.
 fn may_come(kind: FileKind, draft: &Draft) -> bool
     ensures { result ≡ may_come kind draft.now.protocol }
 {
@@ -115,8 +117,8 @@ fn add_using(
     Ok(())
 }
 
-/// Passes the word that says how the messages of the protocol that comes next are sent; without one
-/// they are async.
+/// Takes the word that gives the semantics of the protocol that comes next, if there is one.
+/// Without it the protocol is async.
 fn protocol_semantics(reader: &mut TokenReader) -> Semantics
     requires { begins_protocol (first_symbol reader.old) ≡ true }
     ensures drafted { (kind : FileKind) (tokens : List Token) (list : List Attribute) (draft : Draft)
@@ -131,7 +133,7 @@ fn protocol_semantics(reader: &mut TokenReader) -> Semantics
     Semantics::Async
 }
 
-/// Adds the protocol whose keyword is to come, with the attributes and the word before it.
+/// Adds the protocol whose keyword must come next, with the attributes and the word before it.
 fn add_protocol(
     alloc: Global,
     reader: &mut TokenReader,
@@ -240,7 +242,7 @@ fn close_namespace(reader: &mut TokenReader, draft: &mut Draft)
     draft.scope.pop();
 }
 
-/// Adds what comes next: a declaration, or a namespace's begin or end.
+/// Adds the next declaration, or opens or closes a namespace.
 fn declaration(
     alloc: Global,
     reader: &mut TokenReader,
@@ -264,7 +266,7 @@ fn declaration(
     }
 }
 
-/// The tree of a draft where all tokens are read.
+/// Returns the tree of a draft after all tokens are read.
 fn finish(draft: Draft, kind: FileKind) -> Result<Unit, TreeRefusal>
     ensures read { IfOk result (λ unit. (tokens : List Token) → IsDraft kind tokens draft [] → Tree kind tokens unit) }
     ensures stops { IfErr result (λ e. (tokens : List Token) → IsDraft kind tokens draft [] → FileStops kind tokens e) }
@@ -281,8 +283,9 @@ fn finish(draft: Draft, kind: FileKind) -> Result<Unit, TreeRefusal>
     })
 }
 
-/// Reads all tokens of a file of this kind, and gives their tree (docs/grammar.md). Where no file
-/// can go on, the refusal says how many tokens are left there. In any case memory may run out.
+/// Reads all tokens of a file of this kind, and returns their tree (docs/grammar.md). If they have
+/// no tree, the refusal has the number of tokens that are left where no file can continue. Memory
+/// may run out in any case.
 pub fn read_file(alloc: Global, tokens: &[Token], kind: FileKind) -> Result<Unit, TreeRefusal>
     ensures read { IfOk result (Tree kind tokens.now) }
     ensures stops { IfErr result (FileStops kind tokens.now) }

@@ -1,3 +1,5 @@
+//! Reads structs, unions, protocols, usings, includes and namespaces after their keywords.
+
 ghost use Rattle.std.specs.Prelude.{◌≡◌, ◌<◌, ◌≤◌, IfOk, OnOk, IfErr, [], ◌∷◌, ◌++◌, length, codes};
 ghost use Rattle.ipdl_base.specs.Words.{joined};
 ghost use Rattle.ipdl_syntax.specs.Grammar.{declared, foreign_name, included, whole_name};
@@ -5,7 +7,7 @@ ghost use Rattle.ipdl_syntax.specs.Parts.{◌⨾◌, at, either, nothing, mark, 
 ghost use Rattle.tree_reader.specs.declared.symbol.Symbol.TheVariants.{OpenBrace, Semicolon, Word, From, Quoted};
 ghost use Rattle.tree_reader.specs.Ending as ending;
 ghost use Rattle.tree_reader.specs.Machine.{take, typed, fielded, componented, managing, using_named, using_word, include_named};
-ghost use Rattle.tree_reader.specs.Reading.{Turns, Stops, IsStructBehind, IsUnionBehind, IsUsingBehind, IsProtocolBehind, from_file};
+ghost use Rattle.tree_reader.specs.Reading.{Turns, Stops, IsStructAfter, IsUnionAfter, IsUsingAfter, IsProtocolAfter, from_file};
 
 use crate::body::{ProtocolBody, protocol_body};
 use crate::fields::{components, fields};
@@ -19,7 +21,7 @@ use ipdl_syntax::{
 };
 use std::alloc::{AllocError, Global};
 
-/// The full name of a word in these namespaces.
+/// Returns the full name of a word in these namespaces.
 fn full_name(alloc: Global, scope: &[Name], name: &Name) -> Result<Name, AllocError>
     ensures { IfOk result (λ full. full ≡ joined (scope.now ++ name.now ∷ [])) }
 {
@@ -32,7 +34,7 @@ fn full_name(alloc: Global, scope: &[Name], name: &Name) -> Result<Name, AllocEr
     Ok(full)
 }
 
-/// Takes the name that a declaration in these namespaces gives, and the `{` behind it.
+/// Takes the name that a declaration in these namespaces gives, and the `{` after it.
 fn declared(alloc: Global, reader: &mut TokenReader, scope: &[Name]) -> Result<NameAt, TreeRefusal>
     ensures read { IfOk result (λ n. (declared scope.now n.name n.place ⨾ mark (codes "{")) reader.old reader.new) }
     ensures turns { OnOk result (Turns (take Word ∷ take OpenBrace ∷ []) reader.old [] reader.new) }
@@ -47,14 +49,14 @@ fn declared(alloc: Global, reader: &mut TokenReader, scope: &[Name]) -> Result<N
     })
 }
 
-/// Takes a struct behind its keyword.
+/// Takes a struct after its keyword.
 pub(crate) fn struct_decl(
     alloc: Global,
     reader: &mut TokenReader,
     scope: &[Name],
     attributes: Attributes,
 ) -> Result<StructDecl, TreeRefusal>
-    ensures read { IfOk result (λ s. IsStructBehind scope.now attributes s reader.old reader.new) }
+    ensures read { IfOk result (λ s. IsStructAfter scope.now attributes s reader.old reader.new) }
     ensures turns { OnOk result (Turns (take Word ∷ take OpenBrace ∷ fielded ∷ []) reader.old [] reader.new) }
     ensures stops { IfErr result (Stops (take Word ∷ take OpenBrace ∷ fielded ∷ []) reader.old) }
     ensures less { OnOk result (length reader.new < length reader.old) }
@@ -69,14 +71,14 @@ pub(crate) fn struct_decl(
     })
 }
 
-/// Takes a union behind its keyword.
+/// Takes a union after its keyword.
 pub(crate) fn union_decl(
     alloc: Global,
     reader: &mut TokenReader,
     scope: &[Name],
     attributes: Attributes,
 ) -> Result<UnionDecl, TreeRefusal>
-    ensures read { IfOk result (λ u. IsUnionBehind scope.now attributes u reader.old reader.new) }
+    ensures read { IfOk result (λ u. IsUnionAfter scope.now attributes u reader.old reader.new) }
     ensures turns { OnOk result (Turns (take Word ∷ take OpenBrace ∷ typed 4 ending.Semicolon ∷ componented ∷ []) reader.old [] reader.new) }
     ensures stops { IfErr result (Stops (take Word ∷ take OpenBrace ∷ typed 4 ending.Semicolon ∷ componented ∷ []) reader.old) }
     ensures less { OnOk result (length reader.new < length reader.old) }
@@ -91,7 +93,7 @@ pub(crate) fn union_decl(
     })
 }
 
-/// Takes a protocol behind its keyword.
+/// Takes a protocol after its keyword.
 pub(crate) fn protocol_decl(
     alloc: Global,
     reader: &mut TokenReader,
@@ -99,7 +101,7 @@ pub(crate) fn protocol_decl(
     attributes: Attributes,
     semantics: Semantics,
 ) -> Result<ProtocolDecl, TreeRefusal>
-    ensures read { IfOk result (λ p. IsProtocolBehind scope.now attributes semantics p reader.old reader.new) }
+    ensures read { IfOk result (λ p. IsProtocolAfter scope.now attributes semantics p reader.old reader.new) }
     ensures turns { OnOk result (Turns (take Word ∷ take OpenBrace ∷ managing ∷ []) reader.old [] reader.new) }
     ensures stops { IfErr result (Stops (take Word ∷ take OpenBrace ∷ managing ∷ []) reader.old) }
     ensures less { OnOk result (length reader.new < length reader.old) }
@@ -121,7 +123,7 @@ pub(crate) fn protocol_decl(
     })
 }
 
-/// Passes the word before the name of a using, where there is one.
+/// Takes the word before the name of a using, if there is one.
 fn kind_word(reader: &mut TokenReader)
     ensures read { (either nothing (either (reserved (codes "class")) (reserved (codes "struct")))) reader.old reader.new }
     ensures turns { Turns (using_named ∷ []) reader.old (using_word ∷ []) reader.new }
@@ -132,7 +134,7 @@ fn kind_word(reader: &mut TokenReader)
     }
 }
 
-/// The whole text of a name and its argument.
+/// Returns the full text of a name and its argument.
 fn whole_name(alloc: Global, name: Name, inner: Option<Name>) -> Result<Name, AllocError>
     ensures { IfOk result (λ full. full ≡ whole_name name inner) }
 {
@@ -160,13 +162,13 @@ fn from_file(reader: &mut TokenReader) -> Result<(), TreeRefusal>
     reader.take(Symbol::Semicolon)
 }
 
-/// Takes a using behind its keyword.
+/// Takes a using after its keyword.
 pub(crate) fn using_decl(
     alloc: Global,
     reader: &mut TokenReader,
     attributes: Attributes,
 ) -> Result<Using, TreeRefusal>
-    ensures read { IfOk result (λ u. IsUsingBehind attributes u reader.old reader.new) }
+    ensures read { IfOk result (λ u. IsUsingAfter attributes u reader.old reader.new) }
     ensures turns { OnOk result (Turns (using_named ∷ []) reader.old [] reader.new) }
     ensures stops { IfErr result (Stops (using_named ∷ []) reader.old) }
     ensures less { OnOk result (length reader.new < length reader.old) }
@@ -181,7 +183,7 @@ pub(crate) fn using_decl(
     })
 }
 
-/// Takes what an include names.
+/// Takes the name of an include.
 fn included(alloc: Global, reader: &mut TokenReader) -> Result<Include, TreeRefusal>
     ensures read { IfOk result (λ i. included i.kind i.name i.place reader.old reader.new) }
     ensures turns { OnOk result (Turns (include_named ∷ []) reader.old (take Semicolon ∷ []) reader.new) }
@@ -218,7 +220,7 @@ fn included(alloc: Global, reader: &mut TokenReader) -> Result<Include, TreeRefu
     }
 }
 
-/// Takes an include behind its keyword.
+/// Takes an include after its keyword.
 pub(crate) fn include_decl(alloc: Global, reader: &mut TokenReader) -> Result<Include, TreeRefusal>
     ensures read { IfOk result (λ i. (included i.kind i.name i.place ⨾ mark (codes ";")) reader.old reader.new) }
     ensures turns { OnOk result (Turns (include_named ∷ []) reader.old [] reader.new) }
@@ -230,7 +232,7 @@ pub(crate) fn include_decl(alloc: Global, reader: &mut TokenReader) -> Result<In
     Ok(include)
 }
 
-/// Takes the name of a namespace behind its keyword, and the `{` behind it.
+/// Takes the name of a namespace after its keyword, and the `{` after it.
 pub(crate) fn namespace_name(alloc: Global, reader: &mut TokenReader) -> Result<Name, TreeRefusal>
     ensures read { IfOk result (λ name. (word name ⨾ mark (codes "{")) reader.old reader.new) }
     ensures turns { OnOk result (Turns (take Word ∷ take OpenBrace ∷ []) reader.old [] reader.new) }

@@ -1,5 +1,5 @@
-//! A predictive reader by recursive descent: the tree of the tokens of a file, or where it refuses them
-//! (docs/grammar.md).
+//! A predictive reader by recursive descent, which gives the tree of the tokens of a file, or where
+//! it refuses them (docs/grammar.md).
 #![tactic(auto)]
 
 mod attributes;

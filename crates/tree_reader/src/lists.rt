@@ -1,8 +1,10 @@
+//! Lists that keep no spare room.
+
 ghost use Rattle.std.specs.Prelude.{◌≡◌};
 
 use ipdl_base::Items;
 
-/// The list of a vector's elements, which keeps no more room than these take.
+/// Returns the elements of a vector as a list without spare room.
 pub(crate) fn fitted<T>(items: Vec<T>) -> Items<T>
     ensures { result ≡ items.items }
 {

@@ -1,8 +1,10 @@
+//! Reads the messages of a protocol.
+
 ghost use Rattle.std.specs.Prelude.{◌≡◌, ◌<◌, ◌≤◌, IfOk, OnOk, IfErr, true, [], ◌∷◌, length, codes};
 ghost use Rattle.ipdl_syntax.specs.Grammar.{semantics_word, params, returns, message};
 ghost use Rattle.ipdl_syntax.specs.Parts.{◌⨾◌, mark, reserved};
 ghost use Rattle.tree_reader.specs.declared.symbol.Symbol.TheVariants.{OpenParen, Semicolon, Word};
-ghost use Rattle.tree_reader.specs.Machine.{take, parameters, behind_parameters, one_message, messaged};
+ghost use Rattle.tree_reader.specs.Machine.{take, parameters, after_parameters, one_message, messaged};
 ghost use Rattle.tree_reader.specs.Reading.{Turns, Stops, bare_message, begins_message};
 ghost use Rattle.tree_reader.specs.Symbols.{first_symbol};
 
@@ -15,11 +17,11 @@ use ipdl_base::{Direction, Semantics};
 use ipdl_syntax::{Attributes, MessageDecl, NameAt, Params};
 use std::alloc::Global;
 
-/// Takes the returns of a message, where it has some.
+/// Takes the returns of a message, if it has any.
 fn returns(alloc: Global, reader: &mut TokenReader) -> Result<Option<Params>, TreeRefusal>
     ensures read { IfOk result (λ found. returns found reader.old reader.new) }
-    ensures turns { OnOk result (Turns (behind_parameters ∷ []) reader.old (take Semicolon ∷ []) reader.new) }
-    ensures stops { IfErr result (Stops (behind_parameters ∷ []) reader.old) }
+    ensures turns { OnOk result (Turns (after_parameters ∷ []) reader.old (take Semicolon ∷ []) reader.new) }
+    ensures stops { IfErr result (Stops (after_parameters ∷ []) reader.old) }
     ensures fewer { OnOk result (length reader.new ≤ length reader.old) }
 {
     if reader.skips(Symbol::Returns) {
@@ -30,10 +32,10 @@ fn returns(alloc: Global, reader: &mut TokenReader) -> Result<Option<Params>, Tr
     }
 }
 
-/// Takes the word that says how a message is sent.
+/// Takes the word that gives the semantics of a message.
 fn semantics(reader: &mut TokenReader) -> Result<Semantics, TreeRefusal>
     ensures read { IfOk result (λ how. reserved (semantics_word how) reader.old reader.new) }
-    ensures turns { OnOk result (Turns (one_message ∷ []) reader.old (take Word ∷ take OpenParen ∷ parameters ∷ behind_parameters ∷ []) reader.new) }
+    ensures turns { OnOk result (Turns (one_message ∷ []) reader.old (take Word ∷ take OpenParen ∷ parameters ∷ after_parameters ∷ []) reader.new) }
     ensures stops { IfErr result (Stops (one_message ∷ []) reader.old) }
     ensures less { OnOk result (length reader.new < length reader.old) }
 {
@@ -46,18 +48,18 @@ fn semantics(reader: &mut TokenReader) -> Result<Semantics, TreeRefusal>
     Err(reader.refusal())
 }
 
-/// What stands in a message behind its name.
+/// The content of a message after its name.
 #[derive(Drop)]
 struct Contents {
     params: Params,
     returns: Option<Params>,
 }
 
-/// Takes what stands in a message behind its name.
+/// Takes the content of a message after its name.
 fn message_contents(alloc: Global, reader: &mut TokenReader) -> Result<Contents, TreeRefusal>
     ensures read { IfOk result (λ c. (mark (codes "(") ⨾ params c.params ⨾ mark (codes ")") ⨾ returns c.returns ⨾ mark (codes ";")) reader.old reader.new) }
-    ensures turns { OnOk result (Turns (take OpenParen ∷ parameters ∷ behind_parameters ∷ []) reader.old [] reader.new) }
-    ensures stops { IfErr result (Stops (take OpenParen ∷ parameters ∷ behind_parameters ∷ []) reader.old) }
+    ensures turns { OnOk result (Turns (take OpenParen ∷ parameters ∷ after_parameters ∷ []) reader.old [] reader.new) }
+    ensures stops { IfErr result (Stops (take OpenParen ∷ parameters ∷ after_parameters ∷ []) reader.old) }
     ensures less { OnOk result (length reader.new < length reader.old) }
 {
     reader.take(Symbol::OpenParen)?;
@@ -67,7 +69,7 @@ fn message_contents(alloc: Global, reader: &mut TokenReader) -> Result<Contents,
     Ok(Contents { params, returns })
 }
 
-/// Takes a message behind its attributes.
+/// Takes a message after its attributes.
 fn bare_message(
     alloc: Global,
     reader: &mut TokenReader,

@@ -1,3 +1,5 @@
+//! Reads names with namespaces and arguments.
+
 ghost use Rattle.std.specs.Prelude.{◌≡◌, ◌≢◌, ◌<◌, ◌≤◌, IfOk, OnOk, IfErr, List, [], ◌∷◌, length, codes};
 ghost use Rattle.ipdl_syntax.specs.Grammar.{qualified, argument, named};
 ghost use Rattle.ipdl_syntax.specs.Parts.{◌⨾◌, at, mark};
@@ -13,8 +15,8 @@ use ipdl_base::{Name, Place};
 use ipdl_syntax::NameAt;
 use std::alloc::Global;
 
-/// Takes the words of a name behind its first one, each with the `::` before it, and puts them
-/// behind the text.
+/// Takes the words of a name after its first one, each with the `::` before it, and appends them to
+/// `text`.
 fn more_words(alloc: Global, reader: &mut TokenReader, text: &mut Name) -> Result<(), TreeRefusal>
     ensures read { OnOk result (AddsWords text.old text.new reader.old reader.new) }
     ensures ending { OnOk result (first_symbol reader.new ≢ Colons) }
@@ -30,7 +32,7 @@ fn more_words(alloc: Global, reader: &mut TokenReader, text: &mut Name) -> Resul
     Ok(())
 }
 
-/// Takes a name with its namespaces; its place is that of its first word.
+/// Takes a name with its namespaces. Its place is that of its first word.
 #[inline(always)]
 fn qualified(alloc: Global, reader: &mut TokenReader) -> Result<NameAt, TreeRefusal>
     ensures read { IfOk result (λ n. at n.place (qualified n.name) reader.old reader.new) }
@@ -44,7 +46,7 @@ fn qualified(alloc: Global, reader: &mut TokenReader) -> Result<NameAt, TreeRefu
     Ok(NameAt { name, place })
 }
 
-/// Takes the argument of a name behind its `<`, to its `>`.
+/// Takes the argument of a name after its `<`, to its `>`.
 fn argument_name(alloc: Global, reader: &mut TokenReader) -> Result<Name, TreeRefusal>
     ensures read { IfOk result (λ name. (qualified name ⨾ mark (codes ">")) reader.old reader.new) }
     ensures turns { OnOk result (Turns (argument_name ∷ []) reader.old [] reader.new) }
@@ -56,7 +58,7 @@ fn argument_name(alloc: Global, reader: &mut TokenReader) -> Result<Name, TreeRe
     Ok(name)
 }
 
-/// Takes the argument of a name, where there is one.
+/// Takes the argument of a name, if there is one.
 fn argument(alloc: Global, reader: &mut TokenReader) -> Result<Option<Name>, TreeRefusal>
     requires { first_symbol reader.old ≢ Colons }
     ensures read { IfOk result (λ inner. argument inner reader.old reader.new) }
@@ -71,8 +73,7 @@ fn argument(alloc: Global, reader: &mut TokenReader) -> Result<Option<Name>, Tre
     }
 }
 
-/// A name with its namespaces, and its argument where it has one; its place is that of its first
-/// word.
+/// A name with its namespaces, and its argument, if it has one. Its place is that of its first word.
 #[derive(Drop)]
 pub(crate) struct QualifiedName {
     pub(crate) name: Name,

@@ -1,3 +1,5 @@
+//! Reads parameters and returns.
+
 ghost use Rattle.std.specs.Prelude.{◌≡◌, ◌<◌, IfOk, OnOk, IfErr, [], ◌∷◌, length, codes};
 ghost use Rattle.ipdl_syntax.specs.Grammar.{param, params};
 ghost use Rattle.ipdl_syntax.specs.Parts.{◌⨾◌, mark};
@@ -49,7 +51,7 @@ fn some_params(alloc: Global, reader: &mut TokenReader) -> Result<Params, TreeRe
     Ok(fitted(all))
 }
 
-/// Takes parameters behind their `(`, perhaps none, to their `)`.
+/// Takes any number of parameters after their `(`, to their `)`.
 pub(crate) fn params(alloc: Global, reader: &mut TokenReader) -> Result<Params, TreeRefusal>
     ensures read { IfOk result (λ ps. (params ps ⨾ mark (codes ")")) reader.old reader.new) }
     ensures turns { OnOk result (Turns (parameters ∷ []) reader.old [] reader.new) }

@@ -1,3 +1,5 @@
+//! The tokens that are left, and what takes single tokens from them.
+
 ghost use Rattle.std.specs.Prelude.{◌≡◌, ◌≢◌, ◌<◌, IfOk, OnOk, IfErr, true, false, [], ◌∷◌, length};
 ghost use Rattle.ipdl_syntax.specs.Parts.{identifier};
 ghost use Rattle.tree_reader.specs.declared.refusal.TreeRefusal.TheVariants.{Left, NoMemory};
@@ -14,10 +16,10 @@ use ipdl_syntax::NameAt;
 use std::alloc::{AllocError, Global};
 use std::marker::Model;
 
-/// The most items of a list for which room is taken before the first.
+/// The most items of a list for which room is reserved before the first.
 const MOST_ROOM: usize = 16;
 
-/// A name with the text of a token.
+/// Returns a name with the text of a token.
 fn name_of(alloc: Global, token: &Token) -> Result<Name, AllocError>
     ensures { IfOk result (λ name. name ≡ token.now.text) }
 {
@@ -28,7 +30,7 @@ fn name_of(alloc: Global, token: &Token) -> Result<Name, AllocError>
 #[derive(Drop)]
 pub(crate) struct TokenReader<'a, 't> {
     rest: &'a [Token<'t>],
-    /// The symbol of the first of them, or that of the end.
+    /// The symbol of the first token that is left, or that of the end.
     next: Symbol,
 }
 
@@ -45,6 +47,7 @@ impl<'a, 't> Model for TokenReader<'a, 't> {
 }
 
 impl<'a, 't> TokenReader<'a, 't> {
+    /// Begins to read these tokens.
     #[inline(always)]
     pub(crate) fn new(tokens: &'a [Token<'t>]) -> TokenReader<'a, 't>
         ensures { result ≡ tokens.now }
@@ -55,15 +58,15 @@ impl<'a, 't> TokenReader<'a, 't> {
         }
     }
 
-    /// The symbol of the next token, or that of the end.
+    /// Returns the symbol of the next token, or that of the end.
     pub(crate) fn symbol(&self) -> Symbol
         ensures { result ≡ first_symbol self.now }
     {
         self.next
     }
 
-    /// A guess at how many items come before the next mark that ends a list, so many more than there
-    /// are marks between them: it says for how many to take room, and nothing rests on it.
+    /// Returns a capacity hint for a list: `more`, and one for each mark `between` before the next
+    /// mark that ends the list. No contract depends on it.
     pub(crate) fn listed(&self, more: usize, between: u8, end: u8) -> usize {
         let mut count = more;
         for token in self.rest {
@@ -76,14 +79,14 @@ impl<'a, 't> TokenReader<'a, 't> {
         count
     }
 
-    /// That the next token, or the end, may not stand here.
+    /// Returns the refusal of the next token, or of the end.
     pub(crate) fn refusal(&self) -> TreeRefusal
         ensures { result ≡ Left (length self.now) }
     {
         TreeRefusal::Left(self.rest.len())
     }
 
-    /// Passes the next token, and gives its place.
+    /// Takes the next token, and returns its place.
     pub(crate) fn pass(&mut self) -> Place
         requires { first_symbol self.old ≢ End }
         ensures { IsNextAt (first_symbol self.old) result self.old self.new }
@@ -95,7 +98,7 @@ impl<'a, 't> TokenReader<'a, 't> {
         place
     }
 
-    /// Passes the next token if it has this symbol, and says whether it did.
+    /// Takes the next token if it has this symbol, and returns whether it did.
     pub(crate) fn skips(&mut self, symbol: Symbol) -> bool
         requires { symbol ≢ End }
         ensures yes { result ≡ true → IsNext symbol self.old self.new }
@@ -123,7 +126,7 @@ impl<'a, 't> TokenReader<'a, 't> {
         }
     }
 
-    /// Takes the next token, and gives its text and its place.
+    /// Takes the next token, and returns its text and its place.
     pub(crate) fn text(&mut self, alloc: Global) -> Result<NameAt, AllocError>
         requires { first_symbol self.old ≢ End }
         ensures { IfOk result (λ n. IsNextText (first_symbol self.old) n.name n.place self.old self.new) }

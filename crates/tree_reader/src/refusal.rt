@@ -1,3 +1,5 @@
+//! Why the reader refuses tokens.
+
 ghost use Rattle.std.specs.Prelude.{◌≡◌};
 ghost use Rattle.tree_reader.specs.declared.refusal.TreeRefusal.TheVariants.{NoMemory};
 
@@ -6,8 +8,10 @@ use std::alloc::{AllocError, AllocFailed};
 /// Why a form was not read.
 #[derive(Clone, Copy, Drop)]
 pub enum TreeRefusal {
-    /// A token that may not stand there, or the end: so many tokens are left.
+    /// No file can continue with the next token, or end here. This is the number of tokens that are
+    /// left.
     Left(usize),
+    /// Memory ran out.
     NoMemory,
 }
 

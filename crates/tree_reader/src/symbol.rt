@@ -1,52 +1,93 @@
+//! The symbols of the grammar.
+
 ghost use Rattle.std.specs.Prelude.{◌≡◌, [], ◌∷◌};
 ghost use Rattle.tree_reader.specs.Symbols.{mark_symbol, word_symbol, symbol, first_symbol};
 
 use ipdl_base::{Token, TokenKind};
 
-/// What the grammar sees of a token, and the end of the tokens.
+/// A symbol of the grammar: the part of a token that decides how a file may continue, or the end of
+/// the tokens.
 #[derive(Clone, Copy, PartialEq, Eq)]
 pub enum Symbol {
+    /// The end of the tokens.
     End,
+    /// A word that is not reserved.
     Word,
+    /// A quoted text.
     Quoted,
+    /// A reserved word that has no symbol of its own.
     OtherWord,
+    /// A mark that has no symbol of its own.
     OtherMark,
+    /// `::`
     Colons,
+    /// `{`
     OpenBrace,
+    /// `}`
     CloseBrace,
+    /// `(`
     OpenParen,
+    /// `)`
     CloseParen,
+    /// `[`
     OpenBracket,
+    /// `]`
     CloseBracket,
+    /// `<`
     Less,
+    /// `>`
     Greater,
+    /// `;`
     Semicolon,
+    /// `,`
     Comma,
+    /// `:`
     Colon,
+    /// `=`
     Equals,
+    /// `?`
     Question,
+    /// `async`
     Async,
+    /// `both`
     Both,
+    /// `child`
     Child,
+    /// `class`
     Class,
+    /// `from`
     From,
+    /// `include`
     Include,
+    /// `manager`
     Manager,
+    /// `manages`
     Manages,
+    /// `namespace`
     Namespace,
+    /// `nullable`
     Nullable,
+    /// `or`
     Or,
+    /// `parent`
     Parent,
+    /// `protocol`
     Protocol,
+    /// `returns`
     Returns,
+    /// `struct`
     Struct,
+    /// `sync`
     Sync,
+    /// `union`
     Union,
+    /// `UniquePtr`
     UniquePtr,
+    /// `using`
     Using,
 }
 
-/// The symbol of a mark of one byte.
+/// Returns the symbol of a mark of one byte.
 #[tactic(auto, unfolding(crate::specs::Symbols::mark_symbol))]
 fn byte_symbol(mark: u8) -> Symbol
     ensures { result ≡ mark_symbol (mark ∷ []) }
@@ -69,6 +110,7 @@ fn byte_symbol(mark: u8) -> Symbol
     }
 }
 
+/// Returns the symbol of a mark.
 #[tactic(auto, unfolding(crate::specs::Symbols::mark_symbol))]
 fn mark_symbol(text: &[u8]) -> Symbol
     ensures { result ≡ mark_symbol text.now }
@@ -80,6 +122,7 @@ fn mark_symbol(text: &[u8]) -> Symbol
     }
 }
 
+/// Returns the symbol of a reserved word.
 #[tactic(auto, unfolding(crate::specs::Symbols::word_symbol))]
 fn word_symbol(text: &[u8]) -> Symbol
     ensures { result ≡ word_symbol text.now }
@@ -108,6 +151,7 @@ fn word_symbol(text: &[u8]) -> Symbol
     }
 }
 
+/// Returns the symbol of a token.
 pub(crate) fn token_symbol(token: &Token) -> Symbol
     ensures { result ≡ symbol token.now }
 {
@@ -119,7 +163,7 @@ pub(crate) fn token_symbol(token: &Token) -> Symbol
     }
 }
 
-/// The symbol of the first token.
+/// Returns the symbol of the first token, or that of the end.
 pub(crate) fn first_symbol(tokens: &[Token]) -> Symbol
     ensures { result ≡ first_symbol tokens.now }
 {

@@ -1,3 +1,5 @@
+//! Reads types.
+
 ghost use Rattle.std.specs.Prelude.{◌≡◌, ℕ, ◌<◌, ◌≤◌, IfOk, OnOk, IfErr, [], ◌∷◌, length};
 ghost use Rattle.ipdl_syntax.specs.Grammar.{suffixes, base, type_round, type_spec};
 ghost use Rattle.ipdl_syntax.specs.Parts.{at};
@@ -13,7 +15,7 @@ use ipdl_base::{Items, Place};
 use ipdl_syntax::{Base, Suffix, Suffixes, TypeSpec};
 use std::alloc::Global;
 
-/// Takes a suffix, where there is one.
+/// Takes a suffix, if there is one.
 fn suffix(reader: &mut TokenReader) -> Result<Option<Suffix>, TreeRefusal>
     ensures read { IfOk result (λ found. MaySuffix found reader.old reader.new) }
     ensures stops { IfErr result (λ e. (n : ℕ) (e' : Ending) → 0 < n → Stops (suffixed n e' ∷ []) reader.old e) }
@@ -47,7 +49,7 @@ fn suffixes(alloc: Global, reader: &mut TokenReader) -> Result<Suffixes, TreeRef
     Ok(Items::from_vec(all))
 }
 
-/// Takes what the suffixes of a type apply to, with room for so many `UniquePtr` inside one another.
+/// Takes the base of a type, with room for this number of nested `UniquePtr`.
 #[cycle(type_spec)]
 fn base(alloc: Global, reader: &mut TokenReader, room: usize) -> Result<(Base, Place), TreeRefusal>
     requires { room ≤ 4 }
@@ -72,7 +74,7 @@ fn base(alloc: Global, reader: &mut TokenReader, room: usize) -> Result<(Base, P
     }
 }
 
-/// Takes a type, with room for so many `UniquePtr` inside one another.
+/// Takes a type, with room for this number of nested `UniquePtr`.
 #[cycle(type_spec)]
 fn type_within(
     alloc: Global,

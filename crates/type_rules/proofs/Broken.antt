@@ -18,6 +18,6 @@ Gains-rule P at o r old new told is e =
     (λ f same. (subst P (sym (ap (λ (y : Finding). y.rule) same)) ((told r).0 is), sym (ap (λ (y : Finding). y.place) same)))
     (λ f h. same_finding f x (sym h.1) (same_Some f.rule r (sym ((told f.rule).1 h.0) ∙ is)))
 
--- or none
+-- or no rule
 pub Gains-no_rule : (P : Rule → Type 0) (at : Place) (o : Option Rule) (old new : List Finding) → ((rule : Rule) → (o ≡ Some rule) ↔ P rule) → o ≡ None → new ≡ old → Gains (λ f. P f.rule × (at ≡ f.place)) old new
 Gains-no_rule P at o old new told is e = Gains-none (λ f. P f.rule × (at ≡ f.place)) old new (λ f h. none-some f.rule (sym is ∙ (told f.rule).1 h.0)) e

@@ -1,4 +1,4 @@
--- A struct or union is defined exactly where its node is derived.
+-- A struct or union is defined exactly if its node is derived.
 use Rattle.std.proofs.Common.{◌≡◌, ℕ, List, [], Option, Some, None, inl, inr, refl, sym, ap, subst, ◌∙◌, arith, option_map}
 use Rattle.std.specs.Prelude.{slice_get, option_and_then}
 use Rattle.std.specs.List.{Contains}
@@ -25,7 +25,7 @@ use Rattle.type_rules.specs.Parts.{IsPart, IsFree, IsNodeOf, AreNodes}
 use Rattle.type_rules.specs.declared.compounds.FileNumbers.{FileNumbers}
 use Rattle.type_rules.proofs.Lists.{any_of_map, any_to_map, contains_map}
 
--- What is found stands in the program
+-- What is found is in the program
 
 inner_there : {E X Y : Type 0} (f : E → Option X) (g : X → Y) (o : Option E) (y : Y) → option_and_then (λ e. option_map g (f e)) o ≡ Some y → (x : X) × (option_and_then f o ≡ Some x)
 inner_there {E} {X} {Y} f g None y h = absurd (none-some y h)
@@ -83,7 +83,7 @@ part_name program all files numbered file name argument n (Using other place) on
 part_name program all files numbered file name argument n (Protocol other) one at = absurd (none-some n at)
 part_name program all files numbered file name argument n (Endpoint other managed) one at = absurd (none-some n at)
 
--- a base with a number is defined where the struct or union of that number is
+-- a base with a number is defined if the struct or union of this number is
 part_defined : (program : List Entry) (all : List NumberedType) (files : List FileNumbers) → AllNumbered program all files → (file : ℕ) (base : Base) (n : ℕ) → IsPart program files file base n
     → (c : NumberedType) × (slice_get all n ≡ Some c) × (IsDefinedCompound program c → IsDefined program file base)
 part_defined program all files numbered file (Named name argument) n (d, one, at) = part_name program all files numbered file name argument n d one at

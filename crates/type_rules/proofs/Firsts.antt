@@ -1,4 +1,4 @@
--- First places of names, and what they tell of earlier declarations.
+-- First places of names, and what they mean for earlier declarations.
 use Rattle.std.proofs.Common.{◌≡◌, ℕ, ◌+◌, ◌<◌, Bool, true, false, cond, IsTrue, List, [], ◌∷◌, ◌++◌, length, take, get_or, map, Option, Some, None, ◌⊎◌, inl, inr, refl, sym, ap, subst, ◌∙◌, arith, Bor}
 use Rattle.std.specs.Prelude.{◌↔◌, IsSomeAnd}
 use Rattle.std.specs.HashMap.{HashMap}
@@ -52,7 +52,7 @@ noted {S} old new full at first updates told name place = by (bytes_eq full name
           ],
         )
 
--- what a read past the end would give
+-- the result of a read past the end
 abbrev pub blank : Listed
 blank = record { full = record { ref_ptr = (0, 0); now = [] }; place = record { file = 0; line = 0; column = 0 }; is_using = false }
 
@@ -62,7 +62,7 @@ firsts_none own firsts empty = record {
   exact = λ name place. (λ h. absurd (none-some h.0 (sym (empty name) ∙ h.1)), λ h. absurd (omega (arith, h.2)));
 }
 
--- one declaration more
+-- one more declaration
 firsts_more : {S : Type 0} (own : Bool) (xs : List Listed) (i : ℕ) (d : Listed) (old new : HashMap (Bor (List ℕ)) Place S) → i < length xs → FirstsAre own (map told (take i xs)) old
     → ((name : List ℕ) (place : Place) → StandsBefore new name place ↔ (StandsBefore old name place ⊎ IsEarlier own name place (told (get_or xs i d))))
     → FirstsAre own (map told (take (i + 1) xs)) new
@@ -93,14 +93,14 @@ firsts_counted own xs i d old new lt before counts grown = firsts_more own xs i 
   λ h. (grown name place).1 (elim h [ inl a ↦ inl a | inr b ↦ inr (b.named, b.before) ]),
 ))
 
--- one that does not
+-- one that does not count
 pub firsts_left_out : {S : Type 0} (own : Bool) (xs : List Listed) (i : ℕ) (d : Listed) (old new : HashMap (Bor (List ℕ)) Place S) → i < length xs → FirstsAre own (map told (take i xs)) old
     → ¬ (IsTrue own → ¬ IsTrue (get_or xs i d).is_using) → new ≡ old → FirstsAre own (map told (take (i + 1) xs)) new
 firsts_left_out {S} own xs i d old new lt before not_counted same =
     let Q : HashMap (Bor (List ℕ)) Place S → Type 0 = FirstsAre own (map told (take (i + 1) xs)) in
     subst Q (sym same) (firsts_more own xs i d old old lt before (λ name place. (λ h. inl h, λ h. elim h [ inl a ↦ a | inr b ↦ absurd (not_counted b.counts) ])))
 
--- a declaration repeats one of these where the first place of its name, among those that count for it, stands before its own
+-- a declaration repeats one of these if the first place of its name, among those that count for it, is before its own
 pub repeats_by_first : {S : Type 0} (own : Bool) (all : List Declaration) (firsts : HashMap (Bor (List ℕ)) Place S) (d : Declaration) → d.is_using ≡ own → FirstsAre own all firsts → StandsBefore firsts d.full d.place ↔ Any (λ earlier. Repeats earlier d) all
 repeats_by_first own all firsts d is are = (
   λ h. let e = (are.exact d.full d.place).0 h in

@@ -6,7 +6,7 @@ use Rattle.std.proofs.lemmas.List.{length-map, get_or-map}
 use Rattle.findings.proofs.Elements.{any_left}
 use Rattle.std.proofs.lemmas.Option.{none-some, same_Some, slice_get_cases, slice_get-map, slice_get_within, get_or_from_slice_get}
 
--- an element stays where it is in a longer list
+-- an element stays at its index in a longer list
 pub slice_get-left : {X : Type 0} (xs ys : List X) (k : ℕ) (x : X) → slice_get xs k ≡ Some x → slice_get (xs ++ ys) k ≡ Some x
 slice_get-left [] ys k x h = absurd (none-some x h)
 slice_get-left (y ∷ xs) ys zero x h = h
@@ -31,7 +31,7 @@ contains_map f xs x (k, lt, at) =
     let less : k < length (map f xs) = omega (arith, length-map xs f, lt) in
     (k, less, get_or-map f xs k x (f x) lt ∙ ap f at)
 
--- what an index has in a list that is made of another
+-- the element at an index of a list that is made of another
 pub read_map : {X Y : Type 0} (f : X → Y) (xs : List X) (n : ℕ) (y : Y) → slice_get (map f xs) n ≡ Some y → (x : X) × (slice_get xs n ≡ Some x) × (f x ≡ y)
 read_map {X} {Y} f xs n y h = go (slice_get xs n) (sym (slice_get-map f xs n) ∙ h)
   where
@@ -42,7 +42,7 @@ read_map {X} {Y} f xs n y h = go (slice_get xs n) (sym (slice_get-map f xs n) �
 pub contains_read : {X : Type 0} (xs : List X) (n : ℕ) (x : X) → slice_get xs n ≡ Some x → Contains xs x
 contains_read xs n x h = (n, slice_get_within xs n x h, get_or_from_slice_get xs n x x h)
 
--- An element of which something holds, in lists that are joined
+-- An element with a property, in lists that are joined
 
 pub any_nothing : {X : Type 0} (P : X → Type 0) → ¬ Any P []
 any_nothing P (k, x, lt, at, p) = omega (arith, lt)

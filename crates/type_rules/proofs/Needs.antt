@@ -29,12 +29,12 @@ free_finds program files file name argument found.None d n counts none one at = 
 free_finds program files file name argument (found.One e) d n counts none one at = none-some n (sym none ∙ ap (number_of files) (one.1 e counts.0) ∙ at)
 free_finds program files file name argument (found.Many e g) d n counts none one at = counts.2 (one.1 e counts.0 ∙ sym (one.1 g counts.1))
 
--- no base has a number and has none
+-- no base both has a number and has no number
 pub not_both : (program : List Entry) (files : List FileNumbers) (file : ℕ) (base : Base) (n : ℕ) → IsFree program files file base → IsPart program files file base n → ⊥
 not_both program files file (Named name argument) n (finds, counts, none) (d, one, at) = free_finds program files file name argument finds d n counts none one at
 not_both program files file (Unique' at nullable inner after place) n free part = not_both program files file inner n free part
 
--- nothing of no bases
+-- no bases
 pub parts_none : (program : List Entry) (files : List FileNumbers) (file : ℕ) (parts : Parts) → parts.numbers.items ≡ [] → parts.has_free ≡ false → AreParts program files file [] parts
 parts_none program files file parts empty unset = record {
   each = λ base h. absurd (omega (arith, h.1));

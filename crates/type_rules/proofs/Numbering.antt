@@ -15,7 +15,7 @@ use Rattle.type_rules.specs.declared.compounds.FileNumbers.{FileNumbers}
 use Rattle.findings.proofs.Indexed.{slice_get-push, slice_get-last}
 use Rattle.type_rules.proofs.Lists.{any_of_map, slice_get-left}
 
--- none of these yet
+-- no declarations yet
 pub numbers_none : {X : Type 0} (make : X → NumberedType) (all : List NumberedType) → AreNumbers make [] [] all all
 numbers_none make all = record { long = refl; grown = sym (append-nil all); each = λ place x h. absurd (none-some x h) }
 
@@ -40,7 +40,7 @@ numbers_turn {X} make xs i x numbers more old mid new lt is longer grown before 
     let P : X → Type 0 = λ y. AreNumbers make (take i xs ++ y ∷ []) (numbers ++ length mid ∷ []) old (mid ++ make x ∷ []) in
     rw (take_more xs i x lt, longer, grown) (subst P is (numbers_push make (take i xs) x numbers old mid before))
 
--- what stands in files stands in more files
+-- what is in some files is in these and more files
 in_left : (es : List Entry) (e : Entry) (c : NumberedType) → IsIn es c → IsIn (es ++ e ∷ []) c
 in_left es e (struct file s) (place, at) =
     (place, option_and_then_some (λ (e : Entry). slice_get e.unit.structs place) (slice_get es file) s at (λ x here there. ap (option_and_then (λ (e : Entry). slice_get e.unit.structs place)) (slice_get-left es (e ∷ []) file x here) ∙ there))
@@ -129,7 +129,7 @@ numbered_none = record {
   only = λ c h. absurd (omega (arith, h.1));
 }
 
--- one file more
+-- one more file
 pub numbered_turn : (program : List Entry) (i : ℕ) (e : Entry) (all new : List NumberedType) (files more : List FileNumbers) (f : FileNumbers) → i < length program → e ≡ get_or program i e → more ≡ files ++ f ∷ []
     → AllNumbered (take i program) all files → AreOfFile i e.unit f all new → AllNumbered (take (i + 1) program) new more
 numbered_turn program i e all new files more f lt is longer before of =

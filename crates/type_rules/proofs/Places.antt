@@ -1,5 +1,5 @@
--- Where a type may stand in the trees of a program: what holds of a type that is written holds of one in such a place, and the
--- other way round.
+-- Where a type may be in the trees of a program: a property of a type that is written holds of one in such a place,
+-- and the other way round.
 use Rattle.std.proofs.Common.{◌≡◌, ℕ, ◌+◌, Bool, List, [], ◌++◌, Option, Some, None, ◌⊎◌, inl, inr, subst, unwrap_or, arith}
 use Rattle.std.specs.Prelude.{IsSomeAnd}
 use Rattle.std.specs.List.{Any, enumerate_from, flat_map}

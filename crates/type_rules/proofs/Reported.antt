@@ -18,14 +18,14 @@ use Rattle.type_rules.proofs.Definedness.{derived_defined, defined_derived}
 use Rattle.findings.proofs.Gathers.{Gains-like}
 use Rattle.type_rules.proofs.Lists.{read_map, contains_read}
 
--- one that stands in the program and is not defined is reported there
+-- a struct or union of the program that is not defined is reported at its place
 reported : (program : List Entry) (place : Place) (c : NumberedType) → IsIn program c → ¬ IsDefinedCompound program c → place_of c ≡ place → IsUndefinedType program place
 reported program place (struct file s) (k, at) not here = option_and_then_some (λ (e : Entry). slice_get e.unit.structs k) (slice_get program file) s at (λ e there is.
     (file, e, there, inl (k, s, slice_get_within e.unit.structs k s is, get_or_from_slice_get e.unit.structs k s s is, (not, here))))
 reported program place (union file u) (k, at) not here = option_and_then_some (λ (e : Entry). slice_get e.unit.unions k) (slice_get program file) u at (λ e there is.
     (file, e, there, inr (k, u, slice_get_within e.unit.unions k u is, get_or_from_slice_get e.unit.unions k u u is, (not, here))))
 
--- what is reported has a number
+-- an undefined struct or union has a number
 has_number : (program : List Entry) (all : List NumberedType) (files : List FileNumbers) (place : Place) → AllNumbered program all files → IsUndefinedType program place
     → (n : ℕ) × (c : NumberedType) × (slice_get all n ≡ Some c) × (¬ IsDefinedCompound program c) × (place_of c ≡ place)
 has_number program all files place numbered (file, e, at, inl (k, s, lt, is, (not, here))) =

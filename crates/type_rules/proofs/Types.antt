@@ -1,4 +1,4 @@
--- The rules on written types, as one relation and each for itself.
+-- The rules on written types, as one relation and separately.
 use Rattle.std.proofs.Common.{◌≡◌, List, ◌⊎◌, inl, inr}
 use Rattle.std.specs.Prelude.{◌↔◌}
 use Rattle.ipdl_base.specs.declared.finding.Finding.{Finding}
@@ -8,14 +8,14 @@ use Rattle.type_rules.specs.Breaks.{BreaksAt}
 use Rattle.type_rules.specs.TypeNames.{IsUnknownType, IsAmbiguousType, IsNullableNonActor}
 use Rattle.type_rules.specs.Written.{SomeType}
 
--- what the three rules report of types
+-- the findings of the three rules on types
 abbrev pub BrokenTypes : List Entry → Finding → Type 0
 BrokenTypes program f =
     ((f.rule ≡ rule.UNKNOWN_TYPE) × IsUnknownType program f.place)
     ⊎ (((f.rule ≡ rule.AMBIGUOUS_TYPE) × IsAmbiguousType program f.place)
     ⊎ ((f.rule ≡ rule.NULLABLE_NON_ACTOR) × IsNullableNonActor program f.place))
 
--- the three rules as one relation, and each for itself
+-- the three rules as one relation, and separately
 pub types_break : (program : List Entry) (f : Finding) → SomeType (BreaksAt program f) program ↔ BrokenTypes program f
 types_break program f = (
   λ h. elim h.4.0 [

@@ -8,13 +8,13 @@ use Rattle.ipdl_syntax.specs.declared.program.Entry.{Entry}
 use Rattle.ipdl_syntax.specs.declared.tree.Base.{Base}
 use Rattle.type_rules.specs.TypeNames.{IsUnknown, IsAmbiguous, IsNoActor}
 
--- a base, with `nullable` before it or not, breaks this rule
+-- a base, with or without `nullable` before it, breaks this rule
 abbrev pub Breaks : List Entry → ℕ → Bool → Base → Rule → Type 0
 Breaks program file nullable base r =
     ((r ≡ rule.UNKNOWN_TYPE) × IsUnknown program file base)
     ⊎ (((r ≡ rule.AMBIGUOUS_TYPE) × IsAmbiguous program file base)
     ⊎ ((r ≡ rule.NULLABLE_NON_ACTOR) × (nullable ≡ true) × IsNoActor program file base))
 
--- a type breaks the finding's rule, and stands at its place
+-- a type breaks the finding's rule, and is at its place
 abbrev pub BreaksAt : List Entry → Finding → ℕ → Bool → Base → Place → Type 0
 BreaksAt program f file nullable base here = Breaks program file nullable base f.rule × (here ≡ f.place)

@@ -1,4 +1,4 @@
--- The rules on types, names of declarations and attributes, and where a program breaks them.
+-- The rules on types, names of declarations and attributes, and the places at which a program breaks them.
 use Rattle.std.specs.Prelude.{◌≡◌, ◌⊎◌, List}
 use Rattle.ipdl_base.specs.declared.finding.Finding.{Finding}
 use Rattle.ipdl_base.specs.declared.finding.TheConstants.Rule as rule

@@ -31,26 +31,27 @@ declarations unit =
     ++ (map (λ u. record { full = u.full; place = u.place; is_using = false }) unit.unions
     ++ of_protocol unit.protocol))
 
--- a declaration has the full name of one that stands earlier in its file, and not both are `using`
+-- a declaration has the full name of an earlier one in its file, and not both are `using`
 pub record Repeats (earlier later : Declaration) : Type 0 where
   pub name : earlier.full ≡ later.full
   pub before : place_cmp earlier.place later.place ≡ Less
   pub not_both : ¬ (IsTrue earlier.is_using × IsTrue later.is_using)
 
--- a word that types of the language have: that of a builtin type, or one of those that take a protocol
+-- the word of a type of the language: of a builtin type, or of a type that takes a protocol
 abbrev pub IsTypeWord : List ℕ → Type 0
 IsTypeWord word = ((type : Builtin) × (builtin_name type ≡ word)) ⊎ ((managed : Bool) × (endpoint_word managed ≡ word))
 
--- a struct, a union or a protocol takes such a word for its own name, in whatever namespace
+-- a struct, a union or a protocol takes such a word as its own name, in any namespace
 pub record TakesTypeWord (d : Declaration) : Type 0 where
   pub own : ¬ IsTrue d.is_using
   pub word : IsTypeWord (short_name d.full)
 
--- B4: the declaration whose name stands at this place repeats an earlier one of its file, or takes a builtin type's word
+-- B4: the declaration whose name is at this place repeats an earlier one of its file, or takes the word of a type of
+-- the language
 abbrev pub IsRepeatedDeclaration : List Entry → Place → Type 0
 IsRepeatedDeclaration program place =
     Any (λ e. Any (λ d. (Any (λ earlier. Repeats earlier d) (declarations e.unit) ⊎ TakesTypeWord d) × (d.place ≡ place)) (declarations e.unit)) program
 
--- B6: the field whose name stands at this place has the name of an earlier field of its struct
+-- B6: the field whose name is at this place has the name of an earlier field of its struct
 abbrev pub IsRepeatedField : List Entry → Place → Type 0
 IsRepeatedField program place = Any (λ e. Any (λ s. IsRepeatedAt (map (λ f. (f.name, f.place)) s.fields) place) e.unit.structs) program

@@ -1,4 +1,4 @@
--- Which types are defined: those whose parts come to an end, in finitely many steps. The rule on definedness (B3).
+-- The types that are defined: those whose parts end in finitely many steps. The rule on definedness (B3).
 use Rattle.std.specs.Prelude.{◌≡◌, ℕ, ◌⊎◌, Bool, List, Option, Some}
 use Rattle.std.specs.List.{Any, Contains}
 use Rattle.ipdl_base.specs.declared.finding.Place.{Place}
@@ -19,9 +19,9 @@ IsCompound (Struct file place) = Unit {0}
 IsCompound (Union file place) = Unit {0}
 IsCompound _ = ⊥
 
--- A base is defined in a file, by a finite derivation: a name that does not find exactly one declaration, or one that is neither
--- struct nor union; a struct of which all fields are; a union of which one component is; a UniquePtr whose inside is. Suffixes
--- and `nullable` change nothing: a type is defined where its base is.
+-- A base is defined in a file, by a finite derivation: a name that does not find exactly one declaration, or finds
+-- one that is neither a struct nor a union; a struct if all of its fields are; a union if one component is; a
+-- UniquePtr if its inside is. Suffixes and `nullable` change nothing: a type is defined if its base is.
 pub data IsDefined (program : List Entry) : ℕ → Base → Type 0 where
   loose : {file : ℕ} {name : List ℕ} {argument : Option (List ℕ)} → ((d : DeclId) → ¬ FindsOne program file name argument d) → IsDefined program file (Named name argument)
   atom : {file : ℕ} {name : List ℕ} {argument : Option (List ℕ)} (d : DeclId) → FindsOne program file name argument d → ¬ IsCompound d → IsDefined program file (Named name argument)
@@ -31,15 +31,15 @@ pub data IsDefined (program : List Entry) : ℕ → Base → Type 0 where
       → Contains u.components component → IsDefined program other component.base → IsDefined program file (Named name argument)
   inside : {file : ℕ} {at : _} {nullable : Bool} {inner : Base} {after : _} {place : Place} → IsDefined program file inner → IsDefined program file (Unique' at nullable inner after place)
 
--- a struct of a file is defined where all its fields are
+-- a struct of a file is defined if all of its fields are
 abbrev pub IsDefinedStruct : List Entry → ℕ → StructDecl → Type 0
 IsDefinedStruct program file s = (field : Param) → Contains s.fields field → IsDefined program file field.spec.base
 
--- a union of a file is defined where one component is
+-- a union of a file is defined if one component is
 abbrev pub IsDefinedUnion : List Entry → ℕ → UnionDecl → Type 0
 IsDefinedUnion program file u = (component : TypeSpec) × Contains u.components component × IsDefined program file component.base
 
--- B3: the struct or union whose name stands at this place is not defined
+-- B3: the struct or union whose name is at this place is not defined
 abbrev pub IsUndefinedType : List Entry → Place → Type 0
 IsUndefinedType program place =
     AtSome (λ file e.

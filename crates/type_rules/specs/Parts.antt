@@ -13,23 +13,23 @@ use Rattle.type_rules.specs.Compounds.{NumberedType, struct, union, number_of, n
 use Rattle.type_rules.specs.declared.compounds.FileNumbers.{FileNumbers}
 use Rattle.type_rules.specs.declared.parts.Parts.{Parts}
 
--- a base is, or holds inside, a name that finds the struct or union of this number
+-- a base is, or has inside, a name that finds the struct or union of this number
 abbrev pub IsPart : List Entry → List FileNumbers → ℕ → Base → ℕ → Type 0
 IsPart program files file (Named name argument) n = (d : DeclId) × FindsOne program file name argument d × (number_of files d ≡ Some n)
 IsPart program files file (Unique' at nullable inner after place) n = IsPart program files file inner n
 
--- a base is, or holds inside, a name that finds nothing with a number
+-- a base is, or has inside, a name that finds nothing with a number
 abbrev pub IsFree : List Entry → List FileNumbers → ℕ → Base → Type 0
 IsFree program files file (Named name argument) = (finds : Found) × Counts (Finds program file name argument) finds × (number_found files finds ≡ None)
 IsFree program files file (Unique' at nullable inner after place) = IsFree program files file inner
 
--- one base more: its number is put down, or it is noted that it has none
+-- one more base: its number is recorded, or the fact that it has no number
 abbrev pub AddsPart : List Entry → List FileNumbers → ℕ → Base → Parts → Parts → Type 0
 AddsPart program files file base old new =
     (IsFree program files file base × (new.numbers.items ≡ old.numbers.items) × (new.has_free ≡ true))
     ⊎ ((n : ℕ) × IsPart program files file base n × (new.numbers.items ≡ old.numbers.items ++ n ∷ []) × (new.has_free ≡ old.has_free))
 
--- the numbers of these bases, and whether one has none
+-- the numbers of these bases, and whether one has no number
 pub record AreParts (program : List Entry) (files : List FileNumbers) (file : ℕ) (bases : List Base) (parts : Parts) : Type 0 where
   pub each : (base : Base) → Contains bases base → IsFree program files file base ⊎ ((n : ℕ) × IsPart program files file base n × Contains parts.numbers.items n)
   pub only : (n : ℕ) → Contains parts.numbers.items n → Any (λ base. IsPart program files file base n) bases
@@ -40,7 +40,7 @@ pub record IsStructNode (parts : Parts) (node : Node) : Type 0 where
   pub need : node.need ≡ All
   pub parts_are : node.parts.items ≡ parts.numbers.items
 
--- the node of a union needs nothing where a component has no number, and else one of its components' numbers
+-- the node of a union needs nothing if a component has no number, or else one of its components' numbers
 abbrev pub IsUnionNode : Parts → Node → Type 0
 IsUnionNode parts node =
     (IsTrue parts.has_free × (node.need ≡ All) × (node.parts.items ≡ []))

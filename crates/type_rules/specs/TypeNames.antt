@@ -13,7 +13,7 @@ abbrev pub IsUnknown : List Entry → ℕ → Base → Type 0
 IsUnknown program file (Named name argument) = FindsNone program file name argument
 IsUnknown program file (Unique' _ _ _ _ _) = ⊥
 
--- a base is a name that finds two or more
+-- a base is a name that finds two or more declarations
 abbrev pub IsAmbiguous : List Entry → ℕ → Base → Type 0
 IsAmbiguous program file (Named name argument) = FindsTwo program file name argument
 IsAmbiguous program file (Unique' _ _ _ _ _) = ⊥
@@ -23,7 +23,7 @@ abbrev pub IsActor : DeclId → Type 0
 IsActor (Protocol p) = Unit {0}
 IsActor _ = ⊥
 
--- a base is no actor: a name that finds one declaration, which is no protocol, or a UniquePtr
+-- a base is not an actor: a name that finds one declaration that is not a protocol, or a UniquePtr
 abbrev pub IsNoActor : List Entry → ℕ → Base → Type 0
 IsNoActor program file (Named name argument) = (d : DeclId) × FindsOne program file name argument d × ¬ IsActor d
 IsNoActor program file (Unique' _ _ _ _ _) = Unit {0}
@@ -32,10 +32,10 @@ IsNoActor program file (Unique' _ _ _ _ _) = Unit {0}
 abbrev pub IsUnknownType : List Entry → Place → Type 0
 IsUnknownType program place = SomeType (λ file nullable base here. IsUnknown program file base × (here ≡ place)) program
 
--- B2: the type at this place has a name that finds two or more
+-- B2: the type at this place has a name that finds two or more declarations
 abbrev pub IsAmbiguousType : List Entry → Place → Type 0
 IsAmbiguousType program place = SomeType (λ file nullable base here. IsAmbiguous program file base × (here ≡ place)) program
 
--- B5: `nullable` stands before the type at this place, whose base is no actor
+-- B5: `nullable` is before the type at this place, whose base is not an actor
 abbrev pub IsNullableNonActor : List Entry → Place → Type 0
 IsNullableNonActor program place = SomeType (λ file nullable base here. (nullable ≡ true) × IsNoActor program file base × (here ≡ place)) program

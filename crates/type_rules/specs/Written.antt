@@ -1,4 +1,4 @@
--- What is asked of the types that a program writes.
+-- Properties of the types that a program writes.
 use Rattle.std.specs.Prelude.{ℕ, Bool, List}
 use Rattle.std.specs.List.{Any}
 use Rattle.ipdl_base.specs.declared.finding.Place.{Place}
@@ -6,7 +6,7 @@ use Rattle.ipdl_syntax.specs.declared.program.Entry.{Entry}
 use Rattle.ipdl_syntax.specs.declared.tree.Base.{Base}
 use Rattle.written_parts.specs.Types.{written_types}
 
--- what a type is asked: whether `nullable` stands before its base, the base, and the type's place
+-- a property of a type: of whether `nullable` is before its base, of the base, and of the type's place
 abbrev pub OfType : Type 1
 OfType = Bool → Base → Place → Type 0
 

@@ -1,3 +1,5 @@
+//! The rule on attributes.
+
 ghost use Rattle.std.specs.Prelude.{◌≡◌, ◌⊎◌, ◌↔◌, map, IfOk, OnOk, IsTrue};
 ghost use Rattle.std.specs.Option.{option_copied};
 ghost use Rattle.findings.specs.Adds.{Adds};
@@ -10,7 +12,7 @@ use ipdl_syntax::{Attribute, Entry};
 use std::alloc::{AllocError, Global};
 use written_parts::{AttributeList, Bearer, attribute_lists};
 
-/// The names of attributes, with their places.
+/// Returns the names of attributes, with their places.
 fn names_of(alloc: Global, attributes: &[Attribute]) -> Result<Vec<NamePlace<'_>>, AllocError>
     ensures { IfOk result (λ names. map name_place names.items ≡ map (λ a. (a.name, a.place)) attributes.now) }
 {
@@ -33,7 +35,7 @@ fn add_repeated_of(
     add_repeated(alloc, Rule::BAD_ATTRIBUTE, names.as_slice(), found)
 }
 
-/// Whether a value is one that `Nested` and `NestedUpTo` list.
+/// Returns whether a value is one of those of `Nested` and `NestedUpTo`.
 fn is_listed_level(value: Option<&Name>) -> bool
     ensures { IsTrue result ↔ IsListedLevel (option_copied value.entry) }
 {
@@ -46,7 +48,7 @@ fn is_listed_level(value: Option<&Name>) -> bool
         || value == b"inside_cpow".as_slice()
 }
 
-/// Whether a value is one that `Compress` lists.
+/// Returns whether a value is one of those of `Compress`.
 fn is_listed_compress(value: Option<&Name>) -> bool
     ensures { IsTrue result ↔ IsListedCompress (option_copied value.entry) }
 {
@@ -56,7 +58,7 @@ fn is_listed_compress(value: Option<&Name>) -> bool
     }
 }
 
-/// Whether an attribute has effect on what bears it, and no listed value.
+/// Returns whether an attribute has an effect on its bearer, and no listed value.
 fn is_unlisted(bearer: Bearer, attribute: &Attribute) -> bool
     ensures { IsTrue result ↔ IsUnlistedOf bearer attribute.now }
 {
@@ -75,7 +77,7 @@ fn is_unlisted(bearer: Bearer, attribute: &Attribute) -> bool
     }
 }
 
-/// Adds a finding at each attribute that has effect on what bears it, and no listed value.
+/// Adds a finding at each attribute that has an effect on its bearer, and no listed value.
 fn add_unlisted_of(
     bearer: Bearer,
     attributes: &[Attribute],
@@ -107,8 +109,8 @@ fn add_bad_of(
     add_unlisted_of(list.bearer, list.attributes, found)
 }
 
-/// Adds a finding at each attribute that a program writes and that is repeated in its list, or has
-/// effect and no listed value.
+/// Adds a finding at each attribute of a program that repeats an earlier one of its list, or has an
+/// effect on its bearer and no listed value.
 pub fn add_bad_attributes(
     alloc: Global,
     program: &[Entry],

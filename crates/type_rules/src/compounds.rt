@@ -1,3 +1,5 @@
+//! The structs and unions of a program, by number.
+
 ghost use Rattle.std.specs.Prelude.{◌≡◌, ◌≤◌, ℕ, List, [], ◌++◌, length, map, IfOk, OnOk};
 ghost use Rattle.std.specs.Option.{option_copied};
 ghost use Rattle.type_rules.specs.Compounds.{told, place_of, struct, union, AreNumbers, AreOfFile, number_of, number_found, AllNumbered};
@@ -10,12 +12,14 @@ use std::alloc::{AllocError, Global};
 /// A struct or a union, with the number of its file.
 #[derive(Clone, Copy)]
 pub enum Compound<'p> {
+    /// A struct.
     Struct(u32, &'p StructDecl),
+    /// A union.
     Union(u32, &'p UnionDecl),
 }
 
 impl Compound<'_> {
-    /// The place of its name.
+    /// Returns the place of its name.
     pub fn place(&self) -> Place
         ensures { result ≡ place_of (told self.now) }
     {
@@ -29,19 +33,23 @@ impl Compound<'_> {
 /// The numbers of the structs and of the unions of a file.
 #[derive(Drop)]
 pub struct FileNumbers {
+    /// The numbers of the structs.
     pub structs: Vec<usize>,
+    /// The numbers of the unions.
     pub unions: Vec<usize>,
 }
 
-/// The structs and unions of a program, and the numbers of those of each file, which are their places
-/// in the list of all.
+/// The structs and unions of a program, and for each file the numbers of its own. A number is an
+/// index in the list of all.
 #[derive(Drop)]
 pub struct Compounds<'p> {
+    /// The structs and unions.
     pub all: Vec<Compound<'p>>,
+    /// The numbers of those of each file.
     pub files: Vec<FileNumbers>,
 }
 
-/// Puts the structs of a file into the list, and their numbers into another one, which is empty.
+/// Adds the structs of a file to the list of all, and their numbers to an empty list.
 fn number_structs<'p>(
     file: u32,
     structs: &'p [StructDecl],
@@ -58,7 +66,7 @@ fn number_structs<'p>(
     Ok(())
 }
 
-/// Puts the unions of a file into the list, and their numbers into another one, which is empty.
+/// Adds the unions of a file to the list of all, and their numbers to an empty list.
 fn number_unions<'p>(
     file: u32,
     unions: &'p [UnionDecl],
@@ -75,7 +83,7 @@ fn number_unions<'p>(
     Ok(())
 }
 
-/// Puts the structs and unions of a file into the list, and gives their numbers.
+/// Adds the structs and unions of a file to the list, and returns their numbers.
 fn number_file<'p>(
     alloc: Global,
     file: u32,
@@ -93,7 +101,7 @@ fn number_file<'p>(
     Ok(numbers)
 }
 
-/// The structs and unions of a program, numbered.
+/// Returns the structs and unions of a program with their numbers.
 pub fn compounds_of(alloc: Global, program: &[Entry]) -> Result<Compounds<'_>, AllocError>
     requires { length program.now ≤ 4096 }
     ensures { IfOk result (λ compounds. AllNumbered program.now (map told compounds.all.items) compounds.files.items) }
@@ -106,7 +114,7 @@ pub fn compounds_of(alloc: Global, program: &[Entry]) -> Result<Compounds<'_>, A
     Ok(Compounds { all, files })
 }
 
-/// The number of a declaration, where that is a struct or a union.
+/// Returns the number of a struct or a union, or `None` for any other declaration.
 fn number_of(files: &[FileNumbers], id: DeclId) -> Option<usize>
     ensures { result ≡ number_of files.now id }
 {
@@ -117,7 +125,8 @@ fn number_of(files: &[FileNumbers], id: DeclId) -> Option<usize>
     }
 }
 
-/// The number of what a name finds, where that is one struct or union.
+/// Returns the number of the one struct or union that a name finds, or `None` if it finds anything
+/// else.
 pub fn number_found(files: &[FileNumbers], finds: Found) -> Option<usize>
     ensures { result ≡ number_found files.now finds }
 {

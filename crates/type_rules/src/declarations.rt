@@ -1,3 +1,5 @@
+//! The rule on repeated declarations.
+
 ghost use Rattle.std.specs.Prelude.{◌≡◌, ◌↔◌, ◌⊎◌, ℕ, Bool, List, ◌++◌, map, true, false, IfOk, OnOk, IsTrue, IsSomeAnd};
 ghost use Rattle.std.specs.List.{Any};
 ghost use Rattle.std.specs.Option.{option_copied};
@@ -15,15 +17,18 @@ use std::collections::HashMap;
 /// A declaration of a file.
 #[derive(Clone, Copy)]
 pub struct Declaration<'p> {
+    /// The full name.
     pub full: &'p [u8],
+    /// The place of the name.
     pub place: Place,
+    /// Whether it is a `using`.
     pub is_using: bool,
 }
 
 /// The first place of each full name, among some declarations of a file.
 type Firsts<'p> = HashMap<&'p [u8], Place>;
 
-/// Lists the usings of a file.
+/// Appends the usings of a file.
 fn list_usings<'p>(usings: &'p [Using], all: &mut Vec<Declaration<'p>>) -> Result<(), AllocError>
     ensures { OnOk result (map told all.new.items
         ≡ map told all.old.items ++ map (λ u. record { full = u.full; place = u.place; is_using = true }) usings.now) }
@@ -38,7 +43,7 @@ fn list_usings<'p>(usings: &'p [Using], all: &mut Vec<Declaration<'p>>) -> Resul
     Ok(())
 }
 
-/// Lists the structs of a file.
+/// Appends the structs of a file.
 fn list_structs<'p>(
     structs: &'p [StructDecl],
     all: &mut Vec<Declaration<'p>>,
@@ -56,7 +61,7 @@ fn list_structs<'p>(
     Ok(())
 }
 
-/// Lists the unions of a file.
+/// Appends the unions of a file.
 fn list_unions<'p>(
     unions: &'p [UnionDecl],
     all: &mut Vec<Declaration<'p>>,
@@ -74,7 +79,7 @@ fn list_unions<'p>(
     Ok(())
 }
 
-/// Lists the protocol of a file, where it has one.
+/// Appends the protocol of a file, if it has one.
 fn list_protocol<'p>(
     protocol: Option<&'p ProtocolDecl>,
     all: &mut Vec<Declaration<'p>>,
@@ -91,7 +96,7 @@ fn list_protocol<'p>(
     Ok(())
 }
 
-/// Lists the declarations of a file.
+/// Appends the declarations of a file.
 fn list_declarations<'p>(unit: &'p Unit, all: &mut Vec<Declaration<'p>>) -> Result<(), AllocError>
     ensures { OnOk result (map told all.new.items ≡ map told all.old.items ++ declarations unit.entry.now) }
 {
@@ -101,14 +106,14 @@ fn list_declarations<'p>(unit: &'p Unit, all: &mut Vec<Declaration<'p>>) -> Resu
     list_protocol(unit.protocol.as_ref(), all)
 }
 
-/// Whether one place stands before another.
+/// Returns whether one place is before another.
 fn is_before(one: Place, other: Place) -> bool
     ensures { IsTrue result ↔ IsBefore one other }
 {
     one < other
 }
 
-/// The first of a place and another, where there is another.
+/// Returns the first of two places, or the only one.
 fn first_of(place: Place, other: Option<&Place>) -> Place
     ensures { (later : ThePlace) → IsBefore result later
         ↔ (IsBefore place later ⊎ IsSomeAnd (option_copied other.entry) (λ there. IsBefore there later)) }
@@ -125,7 +130,7 @@ fn first_of(place: Place, other: Option<&Place>) -> Place
     }
 }
 
-/// Notes the place of a declaration.
+/// Records the place of a declaration if it is the first of its name.
 fn note<'p>(declaration: Declaration<'p>, firsts: &mut Firsts<'p>) -> Result<(), AllocError>
     ensures { OnOk result ((name : List ℕ) (place : ThePlace) → StandsBefore firsts.new name place
         ↔ (StandsBefore firsts.old name place ⊎ ((declaration.entry.full.now ≡ name) × IsBefore declaration.entry.place place))) }
@@ -135,14 +140,15 @@ fn note<'p>(declaration: Declaration<'p>, firsts: &mut Firsts<'p>) -> Result<(),
     Ok(())
 }
 
-/// Whether a declaration counts: any, or only one that is no using.
+/// Returns whether a declaration counts. If `own` is set, usings do not count.
 fn counts(own: bool, declaration: &Declaration<'_>) -> bool
     ensures { IsTrue result ↔ (IsTrue own → ¬ IsTrue declaration.now.is_using) }
 {
     !own || !declaration.is_using
 }
 
-/// The first place of each full name, among all declarations or those alone that are no usings.
+/// Returns the first place of each full name among all declarations, or among those that are not
+/// usings if `own` is set.
 fn firsts_of<'p>(
     alloc: Global,
     own: bool,
@@ -159,7 +165,7 @@ fn firsts_of<'p>(
     Ok(firsts)
 }
 
-/// Whether the first place of a name stands before this one.
+/// Returns whether the first place of a name is before this one.
 fn stands_before(firsts: &Firsts<'_>, name: &[u8], place: Place) -> bool
     ensures { IsTrue result ↔ StandsBefore firsts.now name.now place }
 {
@@ -169,7 +175,7 @@ fn stands_before(firsts: &Firsts<'_>, name: &[u8], place: Place) -> bool
     }
 }
 
-/// Whether a word is one that types of the language have.
+/// Returns whether a word is that of a type of the language.
 fn is_type_word(word: &[u8]) -> bool
     ensures { IsTrue result ↔ IsTypeWord word.now }
 {
@@ -178,15 +184,16 @@ fn is_type_word(word: &[u8]) -> bool
         || word == b"ManagedEndpoint".as_slice()
 }
 
-/// Whether a struct, a union or a protocol takes the word of a type for its own name.
+/// Returns whether a struct, a union or a protocol takes the word of a type of the language as its
+/// own name.
 fn takes_type_word(declaration: &Declaration<'_>) -> bool
     ensures { IsTrue result ↔ TakesTypeWord (told declaration.now) }
 {
     !declaration.is_using && is_type_word(short_name(declaration.full))
 }
 
-/// Whether a declaration repeats an earlier one, by the first places of the names of all declarations
-/// and of those that are no usings.
+/// Returns whether a declaration repeats an earlier one. `any` has the first places of the names of
+/// all declarations, `own` those of the names of declarations that are not usings.
 fn repeats(any: &Firsts<'_>, own: &Firsts<'_>, declaration: &Declaration<'_>) -> bool
     ensures { (all : List TheDeclaration) → FirstsAre false all any.now → FirstsAre true all own.now
         → IsTrue result ↔ Any (λ earlier. Repeats earlier (told declaration.now)) all }
@@ -198,7 +205,8 @@ fn repeats(any: &Firsts<'_>, own: &Firsts<'_>, declaration: &Declaration<'_>) ->
     }
 }
 
-/// Whether a declaration repeats an earlier one or takes the word of a type, by the same first places.
+/// Returns whether a declaration repeats an earlier one or takes the word of a type, by the same
+/// first places.
 fn is_repeated(any: &Firsts<'_>, own: &Firsts<'_>, declaration: &Declaration<'_>) -> bool
     ensures { (all : List TheDeclaration) → FirstsAre false all any.now → FirstsAre true all own.now
         → IsTrue result ↔ IsRepeatedAmong all (told declaration.now) }
@@ -228,7 +236,7 @@ fn add_repeated_among(
     Ok(())
 }
 
-/// The same for these declarations, which are those of a file.
+/// Does the same for these declarations, which are those of a file.
 fn add_repeated_of(
     alloc: Global,
     all: &[Declaration<'_>],
@@ -242,7 +250,7 @@ fn add_repeated_of(
     add_repeated_among(&any, &own, all, found)
 }
 
-/// The same for a file.
+/// Does the same for a file.
 fn add_repeated_in(alloc: Global, unit: &Unit, found: &mut Vec<Finding>) -> Result<(), AllocError>
     ensures { OnOk result (Adds Rule.REPEATED_DECLARATION
         (λ place. Any (λ d. IsRepeatedAmong (declarations unit.now) d × (d.place ≡ place)) (declarations unit.now)) found.old.items found.new.items) }
@@ -252,7 +260,8 @@ fn add_repeated_in(alloc: Global, unit: &Unit, found: &mut Vec<Finding>) -> Resu
     add_repeated_of(alloc, all.as_slice(), found)
 }
 
-/// The same for a program.
+/// Adds a finding at each declaration of a program that repeats an earlier one of its file or takes
+/// the word of a type.
 pub fn add_repeated_declarations(
     alloc: Global,
     program: &[Entry],

@@ -1,3 +1,5 @@
+//! The rule on repeated fields.
+
 ghost use Rattle.std.specs.Prelude.{◌≡◌, map, IfOk, OnOk};
 ghost use Rattle.std.specs.List.{Any};
 ghost use Rattle.findings.specs.Adds.{Adds};
@@ -10,7 +12,7 @@ use ipdl_base::{Finding, Rule};
 use ipdl_syntax::{Entry, Param, StructDecl};
 use std::alloc::{AllocError, Global};
 
-/// The names of fields, with their places.
+/// Returns the names of fields, with their places.
 fn names_of(alloc: Global, fields: &[Param]) -> Result<Vec<NamePlace<'_>>, AllocError>
     ensures { IfOk result (λ names. map name_place names.items ≡ map (λ f. (f.name, f.place)) fields.now) }
 {
@@ -33,7 +35,7 @@ fn add_repeated_of(
     add_repeated(alloc, Rule::REPEATED_FIELD, names.as_slice(), found)
 }
 
-/// The same for these structs.
+/// Does the same for these structs.
 fn add_repeated_in(
     alloc: Global,
     structs: &[StructDecl],
@@ -47,7 +49,7 @@ fn add_repeated_in(
     Ok(())
 }
 
-/// The same for all structs of a program.
+/// Adds a finding at each field of a program that has the name of an earlier one of its struct.
 pub fn add_repeated_fields(
     alloc: Global,
     program: &[Entry],

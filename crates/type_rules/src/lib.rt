@@ -1,5 +1,5 @@
-//! The rules on types: what their names find, which are defined, repeated declarations and fields, and attributes
-//! (docs/types.md).
+//! The rules on types: what their names find, which types are defined, repeated declarations and
+//! fields, and attributes (docs/types.md).
 #![tactic(auto)]
 
 mod attributes;

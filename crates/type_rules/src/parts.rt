@@ -1,3 +1,5 @@
+//! The structs and unions as nodes of a least fixed point, by what their parts find.
+
 ghost use Rattle.std.specs.Prelude.{◌≡◌, ℕ, List, map, IfOk, OnOk, MatchOption};
 ghost use Rattle.type_rules.specs.Compounds.{told, struct, union};
 ghost use Rattle.type_rules.specs.Parts.{IsPart, IsFree, AddsPart, AreParts, IsUnionNode, IsNodeOf, AreNodes};
@@ -8,15 +10,17 @@ use least_fixed_points::{Need, Node};
 use name_table::Names;
 use std::alloc::{AllocError, Global};
 
-/// What the fields or components of a struct or a union find: the numbers of structs and unions, and
-/// whether one of them finds something else.
+/// What the fields or components of a struct or a union find.
 #[derive(Drop)]
 pub struct Parts {
+    /// The numbers of the structs and unions that they find.
     pub numbers: Vec<usize>,
+    /// Whether one of them finds anything else.
     pub has_free: bool,
 }
 
-/// The number of the struct or union that a type finds, by its name or that inside its `UniquePtr`.
+/// Returns the number of the struct or union that a type finds, by its name or the name inside its
+/// `UniquePtr`, or `None` if it finds anything else.
 fn part_of(names: &Names<'_>, files: &[FileNumbers], file: u32, spec: &TypeSpec) -> Option<usize>
     ensures { MatchOption result (IsFree names.now files.now file spec.now.base) (IsPart names.now files.now file spec.now.base) }
 {
@@ -28,7 +32,7 @@ fn part_of(names: &Names<'_>, files: &[FileNumbers], file: u32, spec: &TypeSpec)
     }
 }
 
-/// Puts down what a type finds.
+/// Records what a type finds.
 fn add_part(
     names: &Names<'_>,
     files: &[FileNumbers],
@@ -45,7 +49,7 @@ fn add_part(
     Ok(())
 }
 
-/// What the fields of a struct find.
+/// Returns what the fields of a struct find.
 fn parts_of_fields(
     alloc: Global,
     names: &Names<'_>,
@@ -65,7 +69,7 @@ fn parts_of_fields(
     Ok(parts)
 }
 
-/// What the components of a union find.
+/// Returns what the components of a union find.
 fn parts_of_components(
     alloc: Global,
     names: &Names<'_>,
@@ -85,8 +89,8 @@ fn parts_of_components(
     Ok(parts)
 }
 
-/// The node of a union: it needs one of the structs and unions that its components find, and nothing
-/// where a component finds something else.
+/// Returns the node of a union. It needs one of the structs and unions that its components find, or
+/// nothing if a component finds anything else.
 fn union_node(alloc: Global, parts: Parts) -> Node
     ensures { IsUnionNode parts result }
 {
@@ -103,7 +107,7 @@ fn union_node(alloc: Global, parts: Parts) -> Node
     }
 }
 
-/// The node of a struct or a union.
+/// Returns the node of a struct or a union.
 fn node_of(
     alloc: Global,
     names: &Names<'_>,
@@ -127,7 +131,7 @@ fn node_of(
     }
 }
 
-/// The nodes of the structs and unions of a program.
+/// Returns the nodes of the structs and unions of a program.
 pub fn nodes_of(
     alloc: Global,
     names: &Names<'_>,

@@ -1,3 +1,5 @@
+//! Adds the findings of the rules on types.
+
 ghost use Rattle.std.specs.Prelude.{◌≡◌, ◌≤◌, length, OnOk};
 ghost use Rattle.findings.specs.Gains.{Gains};
 ghost use Rattle.type_rules.specs.Broken.{BrokenAt};
@@ -12,8 +14,8 @@ use ipdl_syntax::Program;
 use name_table::Names;
 use std::alloc::{AllocError, Global};
 
-/// Adds the findings of the rules B1 to B7 that a program breaks (docs/types.md), in some order. The
-/// names are those of the program. The only error is want of memory.
+/// Adds the findings of the rules B1 to B7 that a program breaks (docs/types.md), in some order.
+/// `names` is the table of the program's names. Fails only if memory runs out.
 pub fn add_of_types(
     alloc: Global,
     program: &Program,

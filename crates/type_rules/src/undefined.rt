@@ -1,3 +1,5 @@
+//! The rule on types that are not defined.
+
 ghost use Rattle.std.specs.Prelude.{◌≡◌, ◌≤◌, ◌↔◌, List, length, true, Some, slice_get, map, OnOk, IsTrue};
 ghost use Rattle.findings.specs.Gains.{Gains, AtSome};
 ghost use Rattle.type_rules.specs.Compounds.{told, place_of};
@@ -11,7 +13,7 @@ use least_fixed_points::least_fixed_point;
 use name_table::Names;
 use std::alloc::{AllocError, Global};
 
-/// Whether there is a set mark at an index.
+/// Returns whether the mark at an index is set.
 fn is_marked(marks: &[bool], index: usize) -> bool
     ensures { IsTrue result ↔ (slice_get marks.now index ≡ Some true) }
 {
@@ -21,7 +23,7 @@ fn is_marked(marks: &[bool], index: usize) -> bool
     }
 }
 
-/// Adds a finding at each struct or union that has no mark.
+/// Adds a finding at each struct or union whose mark is not set.
 fn add_unmarked(
     all: &[Compound<'_>],
     marks: &[bool],

@@ -1,3 +1,5 @@
+//! The rules on the types that a program writes.
+
 ghost use Rattle.std.specs.Prelude.{◌≡◌, ◌≤◌, ◌↔◌, ℕ, List, Option, Some, length, OnOk};
 ghost use Rattle.ipdl_base.specs.declared.finding.Rule.{Rule as TheRule};
 ghost use Rattle.ipdl_syntax.specs.declared.tree.Base.{Named};
@@ -12,7 +14,7 @@ use name_table::{DeclId, Found, Names};
 use std::alloc::{AllocError, Global};
 use written_parts::written_types;
 
-/// The rule that a name breaks by what it finds.
+/// Returns the rule that a name breaks by what it finds, or `None`.
 fn rule_of(nullable: bool, finds: Found) -> Option<Rule>
     ensures { (program : List Entry) (file : ℕ) (name : List ℕ) (argument : Option (List ℕ)) → Counts (Finds program file name argument) finds
         → (rule : TheRule) → (result ≡ Some rule) ↔ Breaks program file nullable (Named name argument) rule }
@@ -31,7 +33,7 @@ fn rule_of(nullable: bool, finds: Found) -> Option<Rule>
     }
 }
 
-/// The rule that a type breaks in a file.
+/// Returns the rule that a type breaks in a file, or `None`.
 fn broken_rule(names: &Names<'_>, file: u32, spec: &TypeSpec) -> Option<Rule>
     ensures { (rule : TheRule) → (result ≡ Some rule) ↔ Breaks names.now file spec.now.nullable spec.now.base rule }
 {
@@ -49,7 +51,7 @@ fn broken_rule(names: &Names<'_>, file: u32, spec: &TypeSpec) -> Option<Rule>
     }
 }
 
-/// Adds what a type breaks in a file.
+/// Adds the finding of the rule that a type breaks in a file.
 fn add_broken(
     names: &Names<'_>,
     file: u32,
@@ -67,8 +69,8 @@ fn add_broken(
     Ok(())
 }
 
-/// Adds a finding at each type that a program writes whose name finds nothing or two, or which is
-/// nullable and no actor. Each name is looked up once.
+/// Adds a finding at each type of a program whose name finds nothing or two declarations, or which
+/// is nullable and not an actor. Looks up each name once.
 pub fn add_broken_types(
     alloc: Global,
     program: &[Entry],

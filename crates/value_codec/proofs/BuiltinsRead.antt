@@ -24,7 +24,7 @@ use Rattle.value_codec.proofs.Signed.{IsSigned, signed1, signed2, signed4, signe
 use Rattle.value_codec.proofs.Taken.{bind_ok, moved, Takes, TakesField, field_takes, flag_takes, counted_takes, id_takes}
 use Rattle.std.proofs.lemmas.List.{take_all}
 
--- What was read of a type is a value of it, whose bytes stood there.
+-- What was read of a type is a value of it, whose bytes were there.
 pub record IsRead (layout : Layout) (schema : Schema) (shape : Shape) (bytes : List ℕ) (v : Value) (rest : List ℕ) : Type 0 where
   pub takes : Takes bytes (value_bytes layout schema shape v) rest
   pub type : HasType schema shape v

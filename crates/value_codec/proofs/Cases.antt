@@ -1,4 +1,4 @@
--- What bytes begin is one of three.
+-- Bytes begin in one of three ways.
 use Rattle.std.proofs.Common.{◌≡◌, ℕ, ◌+◌, ◌≤◌, ◌*◌, List, ◌++◌, length, refl, sym, ap, subst, ◌∙◌, arith, inl, inr, length-append}
 use Rattle.ipdl_base.specs.declared.schema.Schema.{Schema}
 use Rattle.ipdl_base.specs.Plain.{plain_message}
@@ -7,8 +7,8 @@ use Rattle.value_types.specs.declared.layout.Layout.{Layout}
 use Rattle.value_types.specs.declared.layout.TheConstants.{NEW, OLD}
 use Rattle.value_types.specs.Sizes.{payload_size}
 use Rattle.value_types.proofs.Layouts.{body_fourfold}
-use Rattle.value_codec.specs.declared.decoding.Decoded.{Decoded}
-use Rattle.value_codec.specs.declared.decoding.Decoded.TheVariants.{Frame, Short, Bad, NoMemory}
+use Rattle.value_codec.specs.declared.decoding.DecodeResult.{DecodeResult}
+use Rattle.value_codec.specs.declared.decoding.DecodeResult.TheVariants.{Frame, Short, Bad, NoMemory}
 use Rattle.value_codec.specs.Decoding.{begins}
 use Rattle.value_codec.specs.Spelling.{mark_of, body_flags, fields_bytes, message_header, payload_bytes, frame_bytes, FrameOf}
 use Rattle.value_codec.proofs.Framed.{IsTold, begins_told, short_begins, bad_begins, frame_again, frame_begins}
@@ -29,7 +29,7 @@ read_again layout small schema sound message frame rest fits h =
     let own : FrameOf layout schema message (frame_bytes layout schema message) = record { fits = h.fits; small = h.small; spelled = refl } in
     subst (λ (xs : List ℕ). begins layout schema (xs ++ rest) ≡ Frame (plain_message message) (length xs)) (sym is) (frame_again layout schema message rest sound small (subst AreBytes is fits) own)
 
-some_of : (layout : Layout) (schema : Schema) (bytes : List ℕ) (fits : AreBytes bytes) (d : Decoded) → IsTold layout schema bytes fits d → SomeBegins layout schema bytes
+some_of : (layout : Layout) (schema : Schema) (bytes : List ℕ) (fits : AreBytes bytes) (d : DecodeResult) → IsTold layout schema bytes fits d → SomeBegins layout schema bytes
 some_of layout schema bytes fits (Frame m n) h = inl (m, n, h)
 some_of layout schema bytes fits (Short n) h = inr (inl (n, h))
 some_of layout schema bytes fits (Bad offset rule) h = inr (inr (offset, rule, h))

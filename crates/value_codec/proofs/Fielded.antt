@@ -1,4 +1,4 @@
--- The fields of a header are the bytes that they are spelled by.
+-- The fields of a header are spelled by their bytes.
 use Rattle.std.proofs.Common.{◌≡◌, ◌≤◌, ◌<◌, ℕ, ◌^◌, ℤ, Bool, true, false, cond, eqb, List, [], ◌++◌, length, take, drop, refl, sym, ap, ◌∙◌, arith}
 use Rattle.std.proofs.Math.Seq.{take-add}
 use Rattle.std.proofs.lemmas.Bool.{eqb-true}
@@ -65,7 +65,7 @@ fields_fit bytes fits =
       transaction = word_fits _ (number_small (drop 20 bytes) (at 20));
     }
 
--- the fields are read of their bytes, whatever follows
+-- the fields are read from their bytes, whatever follows
 signed_again : (z : ℤ) (rest : List ℕ) → FitsSigned w32 z → cast_signed w32 (little_number 4 (signed_word z ++ rest)) ≡ z
 signed_again z rest fits = ap (cast_signed w32) (little_number-reads_back 4 (cast_unsigned w32 z) rest (unsigned_small z fits)) ∙ to_z-of_z w32 z fits
 

@@ -1,4 +1,4 @@
--- A payload has as many bytes as its size says.
+-- The number of bytes of a payload is its size.
 use Rattle.std.proofs.Common.{◌≡◌, ℕ, ℤ, ◌+◌, ◌^◌, true, false, cond, ltb, List, [], ◌∷◌, ◌++◌, length, replicate, Option, Some, None, refl, ap, ◌∙◌, arith, length-append, unwrap_or}
 use Rattle.std.proofs.lemmas.List.{length-replicate}
 use Rattle.std.specs.Option.{option_map_or}
@@ -33,7 +33,7 @@ number_length layout count n = part_length layout (little_bytes count n) ∙ ap 
 pub counted_length : (layout : Layout) (bytes : List ℕ) → length (counted layout bytes) ≡ padded layout (4 + length bytes)
 counted_length layout bytes = part_length layout (word (length bytes) ++ bytes) ∙ ap (padded layout) (length-append (word (length bytes)) bytes)
 
--- what stands for a part that may be missing
+-- the bytes of a part that may be missing
 part_of : {X : Type 0} (f : X → List ℕ) (g : X → ℕ) (o : Option X) → ((x : X) → length (f x) ≡ g x) → length (option_map_or f o []) ≡ option_map_or g o 0
 part_of f g None h = refl
 part_of f g (Some x) h = h x

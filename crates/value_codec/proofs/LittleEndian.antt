@@ -11,7 +11,7 @@ use Rattle.byteorder.specs.Numbers.{length-bytes_low_first, little_from-cons, li
 abbrev pub IsBytes : List ℕ → Type 0
 IsBytes bytes = (i : ℕ) → get_or bytes i 0 < 256
 
--- the lowest bytes of a number stand first among its bytes
+-- the lowest bytes of a number are first among its bytes
 pub take-little_bytes : (most count n : ℕ) (bytes rest : List ℕ) → count ≤ most → bytes ≡ little_bytes most n ++ rest → take count bytes ≡ little_bytes count n
 take-little_bytes most count n bytes rest few is =
     ap (take count) is ∙ take-append-le count (little_bytes most n) rest (omega (arith, length-bytes_low_first 0 most n)) ∙ take-bytes_low_first 0 most count n few
@@ -20,7 +20,7 @@ byte_at-pow : (k x : ℕ) → byte_at k x ≡ x / 256 ^ k % 256
 byte_at-pow zero x = ap (λ (y : ℕ). y % 256) (sym (div-one x))
 byte_at-pow (suc k) x = refl
 
--- behind its lowest byte, a number's bytes are those of the rest
+-- after its lowest byte, a number's bytes are those of the rest
 byte_at-suc : (k b y : ℕ) → b < 256 → byte_at (suc k) (b + 256 * y) ≡ byte_at k y
 byte_at-suc k b y small =
     let rest : (b + 256 * y) / 256 ≡ y = omega arith in
@@ -31,7 +31,7 @@ bytes-suc : (i n b y : ℕ) → b < 256 → bytes_low_first (suc i) n (b + 256 *
 bytes-suc i zero b y small = refl
 bytes-suc i (suc n) b y small = λ j. byte_at-suc i b y small j ∷ bytes-suc (suc i) n b y small j
 
--- the bytes of the number that bytes are, are those bytes
+-- the bytes of the number that bytes spell are those bytes
 pub bytes_back : (n : ℕ) (bytes : List ℕ) → IsBytes bytes → n ≤ length bytes → little_bytes n (little_number n bytes) ≡ take n bytes
 bytes_back zero bytes fits long = refl
 bytes_back (suc n) [] fits long = absurd (omega arith)
@@ -42,7 +42,7 @@ bytes_back (suc n) (b ∷ bytes) fits long =
     let rest : bytes_low_first 1 n (b + 256 * little_from 0 n bytes) ≡ take n bytes = bytes-suc 0 n b (little_from 0 n bytes) small ∙ bytes_back n bytes (λ i. fits (suc i)) (omega arith) in
     ap (bytes_low_first 0 (suc n)) moved ∙ (λ j. low j ∷ rest j)
 
--- the number in a number's bytes is what they hold of it
+-- the number in the first n bytes of a number is the number modulo 256^n
 pub number_in : (n x : ℕ) → little_number n (little_bytes n x) ≡ x % 256 ^ n
 number_in n x =
     ap (little_from 0 n) (sym (append-nil (little_bytes n x))) ∙ little_from-bytes n 0 x [] ∙ ap (λ (y : ℕ). y % 256 ^ n) (div-one x)
@@ -55,7 +55,7 @@ IsBytes-little i (suc n) x (suc k) = IsBytes-little (suc i) n x k
 pub length-little : (n x : ℕ) → length (little_bytes n x) ≡ n
 length-little n x = length-bytes_low_first 0 n x
 
--- bytes hold no more of a number than what is below their limit
+-- the lowest n bytes of a number depend only on the number modulo 256^n
 pub low_bytes_same : (n a b : ℕ) → a % 256 ^ n ≡ b % 256 ^ n → little_bytes n a ≡ little_bytes n b
 low_bytes_same n a b e =
     let one : (x : ℕ) → little_bytes n (x % 256 ^ n) ≡ little_bytes n x = λ x. ap (little_bytes n) (sym (number_in n x)) ∙ bytes_back n (little_bytes n x) (IsBytes-little 0 n x) (omega (arith, length-little n x)) ∙ take_all n (little_bytes n x) (omega (arith, length-little n x)) in

@@ -1,4 +1,4 @@
--- What a payload says is what is spelled there, and what is spelled is read again.
+-- The content of a payload is what is spelled there, and what is spelled is read again.
 use Rattle.std.proofs.Common.{◌≡◌, ℕ, zero, suc, ℤ, pos, negsuc, Bool, true, false, cond, eqb, List, [], ◌∷◌, ◌++◌, replicate, Option, Some, None, Result, Ok, refl, sym, ap, subst, ◌∙◌, arith, unwrap_or}
 use Rattle.std.proofs.lemmas.Bool.{eqb-true}
 use Rattle.std.proofs.lemmas.Int.{ints}
@@ -51,7 +51,7 @@ reason_found : (layout : Layout) (semantics : Semantics) (b : ℕ) (bytes : List
 unfolding reason_in
 reason_found layout semantics b bytes None r rest is fits e = absurd cc
 reason_found layout semantics b bytes (Some reason) r rest is fits e =
-    let t = bind_ok (zeros (padding layout 1) bytes) (λ behind. Ok (reason, behind)) (r, rest) e in
+    let t = bind_ok (zeros (padding layout 1) bytes) (λ following. Ok (reason, following)) (r, rest) e in
     let means = reason_means semantics b reason is in
     let z = zeros_takes (padding layout 1) bytes t.0 fits t.1 in
     let whole = part_takes layout (b ∷ bytes) (reason_byte reason ∷ []) bytes t.0 (ap (λ (c : ℕ). c ∷ bytes) means.0) z in
@@ -73,8 +73,8 @@ reason_again : (layout : Layout) (semantics : Semantics) (r : Reason) (rest : Li
 unfolding reason_at reason_in
 reason_again layout semantics r rest h =
     let bytes : List ℕ = part layout (reason_byte r ∷ []) ++ rest in
-    let behind : List ℕ = replicate (padding layout 1) 0 ++ rest in
-    ap (λ (o : Option Reason). reason_in layout o bytes behind) (reason_of-byte semantics r h)
+    let following : List ℕ = replicate (padding layout 1) 0 ++ rest in
+    ap (λ (o : Option Reason). reason_in layout o bytes following) (reason_of-byte semantics r h)
     ∙ ap (λ (z : Result (List ℕ) Fault). z >>= λ b. Ok (r, b)) (zeros_again (padding layout 1) rest)
 
 -- Ends

@@ -1,4 +1,4 @@
--- The frames of messages do not depend on where the boxes of their values lie.
+-- The frames of messages do not depend on where the boxes of their values are.
 use Rattle.std.proofs.Common.{◌≡◌, ◌∙◌, ℕ, suc, ℤ, List, [], ◌∷◌, ◌++◌, length, Option, Some, None, refl, ap}
 use Rattle.std.specs.Prelude.{unwrap_or}
 use Rattle.std.specs.Option.{option_map_or}

@@ -1,4 +1,5 @@
--- A payload behind a header that breaks no rule says a message that fits, and what a message says is read.
+-- A payload after a header that breaks no rule has the content of a message that fits, and the content of a message
+-- is read.
 use Rattle.std.proofs.Common.{◌≡◌, ◌<◌, ℕ, ◌+◌, ◌^◌, ℤ, pos, Bool, true, false, cond, eqb, List, [], ◌∷◌, length, Option, Some, Ok, refl, sym, ap, subst, ◌∙◌, arith}
 use Rattle.std.proofs.lemmas.Bool.{eqb-true}
 use Rattle.std.proofs.lemmas.Int.{ints}
@@ -28,7 +29,7 @@ use Rattle.value_codec.proofs.Types.{TypeMeans, eqb_same, request_named, reply_n
 use Rattle.value_codec.proofs.ValuesAgain.{IsRoomy}
 use Rattle.value_codec.proofs.ValuesRead.{value_read}
 
--- What was read behind a header is a message that fits, as it is spelled.
+-- What was read after a header is a message that fits, as it is spelled.
 pub record IsSaid (layout : Layout) (schema : Schema) (h : Header) (payload : List ℕ) (made : ℤ) (b : Body) : Type 0 where
   pub fits : Fits schema (message_from h made b)
   pub bytes : payload ≡ body_bytes layout schema (message_of schema h.number) made b
@@ -98,7 +99,7 @@ module _ (layout : Layout) (schema : Schema) (h : Header) (payload : List ℕ) (
   said (request row) made b means are e = request_said row made b means are e
   said (reply row) made b means are e = reply_said row made b (eqb h.flags (reply_flags row)) refl means are e
 
--- What a message says is read behind its header.
+-- The content of a message is read after its header.
 pub record Speaks (layout : Layout) (schema : Schema) (message : Message) (b : Body) : Type 0 where
   pub type : FrameType
   pub of : type_of schema message.number ≡ Some type

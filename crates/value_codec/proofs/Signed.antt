@@ -45,7 +45,7 @@ signed8 = record {
   back = λ z low high. grind (arith, ints, nat_tests);
 }
 
--- what lies between the least and the greatest number of 32 bits fits them
+-- what is between the least and the greatest number of 32 bits fits in 32 bits
 pub fits_word : (z : ℤ) → negsuc 2147483647 ≤ℤ z → z ≤ℤ pos 2147483647 → FitsSigned w32 z
 fits_word (pos n) low high = record { sfits = omega (arith, ints) }
 fits_word (negsuc n) low high = record { sfits = omega (arith, ints) }

@@ -1,4 +1,4 @@
--- What readers of parts take from the front is what is written there, and they take what was written.
+-- What readers of parts take from the beginning is what is written there, and they take what was written.
 use Rattle.std.proofs.Common.{◌≡◌, ◌≤◌, ◌<◌, ℕ, zero, suc, ◌+◌, ◌^◌, ℤ, Bool, true, false, cond, ltb, eqb, List, [], ◌∷◌, ◌++◌, length, take, drop, replicate, Result, Ok, Err, refl, sym, ap, subst, ◌∙◌, append_assoc, arith, length-append}
 use Rattle.std.proofs.lemmas.Bool.{ltb-false, le-ltb, eqb-true}
 use Rattle.std.proofs.lemmas.Int.{to_z-of_z, of_z-to_z}
@@ -25,7 +25,7 @@ pub bind_ok : {A B : Type 0} (r : Result A Fault) (f : A → Result B Fault) (y 
 bind_ok (Ok x) f y e = (x, refl, e)
 bind_ok (Err d) f y e = absurd cc
 
--- a test behind which a step did not fail
+-- a test after which a step did not fail
 pub else_ok : {A : Type 0} (b : Bool) (d : Fault) (r : Result A Fault) (y : A) → cond b (Err d) r ≡ Ok y → (b ≡ false) × (r ≡ Ok y)
 else_ok true d r y e = absurd cc
 else_ok false d r y e = (refl, e)
@@ -52,7 +52,7 @@ first_is x y x' y' e = let p : pair x y ≡ pair x' y' = ok_is (pair x y) (pair 
 pub second_is : {A B : Type 0} (x : A) (y : B) (x' : A) (y' : B) → both x y ≡ both x' y' → y ≡ y'
 second_is x y x' y' e = let p : pair x y ≡ pair x' y' = ok_is (pair x y) (pair x' y') e in ap (λ q. q.1) p
 
--- what holds of what a reader made holds of what it gave
+-- what is true of what a reader made is true of what it gave
 pub moved : {A : Type 0} (S : A → List ℕ → Type 0) (x : A) (r : List ℕ) (y : A) (s : List ℕ) → both x r ≡ both y s → S x r → S y s
 moved S x r y s e h = subst (λ q. S y q) (second_is x r y s e) (subst (λ p. S p r) (first_is x r y s e) h)
 
@@ -68,7 +68,7 @@ IsBytes-take n bytes h i =
       | inr le ↦ rw (get_or_past (take n bytes) i 0 (omega (arith, length-take n bytes))) (omega arith)
     ]
 
--- what a reader took from the front
+-- what a reader took from the beginning
 pub record Takes (bytes text rest : List ℕ) : Type 0 where
   pub parts : bytes ≡ text ++ rest
   pub rest_fits : IsBytes rest
@@ -90,9 +90,9 @@ unfolding zeros
 zeros_again zero rest = refl
 zeros_again (suc n) rest = zeros_again n rest
 
--- a part, and the zeros behind it
-pub part_takes : (layout : Layout) (bytes front behind rest : List ℕ) → bytes ≡ front ++ behind → Takes behind (replicate (padding layout (length front)) 0) rest → Takes bytes (part layout front) rest
-part_takes layout bytes front behind rest is t = record {
+-- a part, and the zeros after it
+pub part_takes : (layout : Layout) (bytes front following rest : List ℕ) → bytes ≡ front ++ following → Takes following (replicate (padding layout (length front)) 0) rest → Takes bytes (part layout front) rest
+part_takes layout bytes front following rest is t = record {
   parts = is ∙ ap (λ (t : List ℕ). front ++ t) t.parts ∙ sym (append_assoc front (replicate (padding layout (length front)) 0) rest);
   rest_fits = t.rest_fits;
 }
@@ -126,27 +126,27 @@ pub record TakesField (layout : Layout) (n : ℕ) (bytes front rest : List ℕ) 
 pub field_takes : (layout : Layout) (n : ℕ) (bytes front rest : List ℕ) → IsBytes bytes → field_at layout n bytes ≡ Ok (front, rest) → TakesField layout n bytes front rest
 unfolding field_at
 field_takes layout n bytes front rest fits e =
-    let g = else_ok (ltb (length bytes) n) short (zeros (padding layout n) (drop n bytes) >>= λ behind. Ok (take n bytes, behind)) (front, rest) e in
+    let g = else_ok (ltb (length bytes) n) short (zeros (padding layout n) (drop n bytes) >>= λ following. Ok (take n bytes, following)) (front, rest) e in
     let long : n ≤ length bytes = ltb-false _ _ g.0 in
-    let b = bind_ok (zeros (padding layout n) (drop n bytes)) (λ behind. Ok (take n bytes, behind)) (front, rest) g.1 in
+    let b = bind_ok (zeros (padding layout n) (drop n bytes)) (λ following. Ok (take n bytes, following)) (front, rest) g.1 in
     let front-is : take n bytes ≡ front = first_is _ _ _ _ b.2 in
     let rest-is : b.0 ≡ rest = second_is _ _ _ _ b.2 in
     let size : length (take n bytes) ≡ n = omega (arith, length-take n bytes) in
     let z = zeros_takes (padding layout n) (drop n bytes) b.0 (IsBytes-drop n bytes fits) b.1 in
-    let behind : Takes (drop n bytes) (replicate (padding layout (length (take n bytes))) 0) b.0 = subst (λ (m : ℕ). Takes (drop n bytes) (replicate (padding layout m) 0) b.0) (sym size) z in
-    let whole = part_takes layout bytes (take n bytes) (drop n bytes) b.0 (sym (take-append-drop n bytes)) behind in
+    let following : Takes (drop n bytes) (replicate (padding layout (length (take n bytes))) 0) b.0 = subst (λ (m : ℕ). Takes (drop n bytes) (replicate (padding layout m) 0) b.0) (sym size) z in
+    let whole = part_takes layout bytes (take n bytes) (drop n bytes) b.0 (sym (take-append-drop n bytes)) following in
     let found : TakesField layout n bytes (take n bytes) b.0 = record { size = size; fits = IsBytes-take n bytes fits; takes = whole } in
     subst (λ (xs : List ℕ). TakesField layout n bytes xs rest) front-is (subst (λ (xs : List ℕ). TakesField layout n bytes (take n bytes) xs) rest-is found)
 
 pub field_again : (layout : Layout) (n : ℕ) (front rest : List ℕ) → length front ≡ n → field_at layout n (part layout front ++ rest) ≡ Ok (front, rest)
 unfolding field_at
 field_again layout n front rest size =
-    let behind : List ℕ = replicate (padding layout (length front)) 0 ++ rest in
-    let regrouped : part layout front ++ rest ≡ front ++ behind = append_assoc front (replicate (padding layout (length front)) 0) rest in
-    let long : ltb (length (front ++ behind)) n ≡ false = le-ltb _ _ (omega (arith, length-append front behind)) in
-    let taken : take n (front ++ behind) ≡ front = take_at front behind n size in
-    let dropped : drop n (front ++ behind) ≡ behind = drop_at front behind n size in
-    let again : zeros (padding layout n) behind ≡ Ok rest = subst (λ (m : ℕ). zeros (padding layout m) behind ≡ Ok rest) size (zeros_again (padding layout (length front)) rest) in
+    let following : List ℕ = replicate (padding layout (length front)) 0 ++ rest in
+    let regrouped : part layout front ++ rest ≡ front ++ following = append_assoc front (replicate (padding layout (length front)) 0) rest in
+    let long : ltb (length (front ++ following)) n ≡ false = le-ltb _ _ (omega (arith, length-append front following)) in
+    let taken : take n (front ++ following) ≡ front = take_at front following n size in
+    let dropped : drop n (front ++ following) ≡ following = drop_at front following n size in
+    let again : zeros (padding layout n) following ≡ Ok rest = subst (λ (m : ℕ). zeros (padding layout m) following ≡ Ok rest) size (zeros_again (padding layout (length front)) rest) in
     ap (field_at layout n) regrouped
     ∙ (λ i. cond (long i) (Err short) (zeros (padding layout n) (dropped i) >>= λ r. Ok (taken i, r)))
     ∙ ap (λ (z : Result (List ℕ) Fault). z >>= λ r. Ok (front, r)) again
@@ -185,54 +185,54 @@ pub struct_again : (layout : Layout) (rest : List ℕ) → struct_at layout (par
 unfolding struct_at
 struct_again layout rest = zeros_again (padding layout 1) rest
 
--- Bytes behind their length
+-- Bytes after their length
 
 pub counted_takes : (layout : Layout) (wants_text : Bool) (bytes text rest : List ℕ) → IsBytes bytes → counted_at layout wants_text bytes ≡ Ok (text, rest) → Takes bytes (counted layout text) rest × (may_stand wants_text text ≡ true)
 unfolding counted_at
 counted_takes layout wants_text bytes text rest fits e =
     let b = bind_ok (word_at bytes) (λ n. cond (ltb (length n.1) n.0) (Err short) (cond (may_stand wants_text (take n.0 n.1)) (zeros (padding layout (4 + n.0)) (drop n.0 n.1) >>= λ r. Ok (take n.0 n.1, r)) (Err (at rule.BAD_TEXT n.1)))) (text, rest) e in
     let n = b.0.0 in
-    let behind = b.0.1 in
-    let w = word_takes bytes n behind fits b.1 in
-    let g = else_ok (ltb (length behind) n) short (cond (may_stand wants_text (take n behind)) (zeros (padding layout (4 + n)) (drop n behind) >>= λ r. Ok (take n behind, r)) (Err (at rule.BAD_TEXT behind))) (text, rest) b.2 in
-    let long : n ≤ length behind = ltb-false _ _ g.0 in
-    let t = then_ok (may_stand wants_text (take n behind)) (at rule.BAD_TEXT behind) (zeros (padding layout (4 + n)) (drop n behind) >>= λ r. Ok (take n behind, r)) (text, rest) g.1 in
-    let d = bind_ok (zeros (padding layout (4 + n)) (drop n behind)) (λ r. Ok (take n behind, r)) (text, rest) t.1 in
-    let size : length (take n behind) ≡ n = omega (arith, length-take n behind) in
-    let back : n ≡ length (take n behind) = omega (arith, size) in
-    let z = zeros_takes (padding layout (4 + n)) (drop n behind) d.0 (IsBytes-drop n behind w.0.rest_fits) d.1 in
-    let front : List ℕ = word (length (take n behind)) ++ take n behind in
-    let front_size : 4 + n ≡ length front = omega (arith, length-append (word (length (take n behind))) (take n behind)) in
-    let zs : Takes (drop n behind) (replicate (padding layout (length front)) 0) d.0 = subst (λ (m : ℕ). Takes (drop n behind) (replicate (padding layout m) 0) d.0) front_size z in
-    let parts : bytes ≡ front ++ drop n behind =
+    let following = b.0.1 in
+    let w = word_takes bytes n following fits b.1 in
+    let g = else_ok (ltb (length following) n) short (cond (may_stand wants_text (take n following)) (zeros (padding layout (4 + n)) (drop n following) >>= λ r. Ok (take n following, r)) (Err (at rule.BAD_TEXT following))) (text, rest) b.2 in
+    let long : n ≤ length following = ltb-false _ _ g.0 in
+    let t = then_ok (may_stand wants_text (take n following)) (at rule.BAD_TEXT following) (zeros (padding layout (4 + n)) (drop n following) >>= λ r. Ok (take n following, r)) (text, rest) g.1 in
+    let d = bind_ok (zeros (padding layout (4 + n)) (drop n following)) (λ r. Ok (take n following, r)) (text, rest) t.1 in
+    let size : length (take n following) ≡ n = omega (arith, length-take n following) in
+    let back : n ≡ length (take n following) = omega (arith, size) in
+    let z = zeros_takes (padding layout (4 + n)) (drop n following) d.0 (IsBytes-drop n following w.0.rest_fits) d.1 in
+    let front : List ℕ = word (length (take n following)) ++ take n following in
+    let front_size : 4 + n ≡ length front = omega (arith, length-append (word (length (take n following))) (take n following)) in
+    let zs : Takes (drop n following) (replicate (padding layout (length front)) 0) d.0 = subst (λ (m : ℕ). Takes (drop n following) (replicate (padding layout m) 0) d.0) front_size z in
+    let parts : bytes ≡ front ++ drop n following =
     w.0.parts
-    ∙ ap (λ (m : ℕ). word m ++ behind) back
-    ∙ ap (λ (xs : List ℕ). word (length (take n behind)) ++ xs) (sym (take-append-drop n behind))
-    ∙ sym (append_assoc (word (length (take n behind))) (take n behind) (drop n behind)) in
-    let whole = part_takes layout bytes front (drop n behind) d.0 parts zs in
-    moved (λ (xs r : List ℕ). Takes bytes (counted layout xs) r × (may_stand wants_text xs ≡ true)) (take n behind) d.0 text rest d.2 (whole, t.0)
+    ∙ ap (λ (m : ℕ). word m ++ following) back
+    ∙ ap (λ (xs : List ℕ). word (length (take n following)) ++ xs) (sym (take-append-drop n following))
+    ∙ sym (append_assoc (word (length (take n following))) (take n following) (drop n following)) in
+    let whole = part_takes layout bytes front (drop n following) d.0 parts zs in
+    moved (λ (xs r : List ℕ). Takes bytes (counted layout xs) r × (may_stand wants_text xs ≡ true)) (take n following) d.0 text rest d.2 (whole, t.0)
 
-abbrev counted_behind : Layout → Bool → ℕ → List ℕ → Result (List ℕ × List ℕ) Fault
-counted_behind layout wants_text n behind =
-    cond (ltb (length behind) n) (Err short) (cond (may_stand wants_text (take n behind)) (zeros (padding layout (4 + n)) (drop n behind) >>= λ r. Ok (take n behind, r)) (Err (at rule.BAD_TEXT behind)))
+abbrev counted_after : Layout → Bool → ℕ → List ℕ → Result (List ℕ × List ℕ) Fault
+counted_after layout wants_text n following =
+    cond (ltb (length following) n) (Err short) (cond (may_stand wants_text (take n following)) (zeros (padding layout (4 + n)) (drop n following) >>= λ r. Ok (take n following, r)) (Err (at rule.BAD_TEXT following)))
 
 pub counted_again : (layout : Layout) (wants_text : Bool) (text rest : List ℕ) → length text < 2 ^ 32 → may_stand wants_text text ≡ true → counted_at layout wants_text (counted layout text ++ rest) ≡ Ok (text, rest)
 unfolding counted_at
 counted_again layout wants_text text rest small stands =
     let n : ℕ = length text in
     let front : List ℕ = word n ++ text in
-    let behind : List ℕ = replicate (padding layout (length front)) 0 ++ rest in
-    let regrouped : counted layout text ++ rest ≡ word n ++ (text ++ behind) = append_assoc front (replicate (padding layout (length front)) 0) rest ∙ append_assoc (word n) text behind in
-    let first = word_again n (text ++ behind) small in
-    let long : ltb (length (text ++ behind)) n ≡ false = le-ltb _ _ (omega (arith, length-append text behind)) in
-    let taken : take n (text ++ behind) ≡ text = take_at text behind n refl in
-    let dropped : drop n (text ++ behind) ≡ behind = drop_at text behind n refl in
+    let following : List ℕ = replicate (padding layout (length front)) 0 ++ rest in
+    let regrouped : counted layout text ++ rest ≡ word n ++ (text ++ following) = append_assoc front (replicate (padding layout (length front)) 0) rest ∙ append_assoc (word n) text following in
+    let first = word_again n (text ++ following) small in
+    let long : ltb (length (text ++ following)) n ≡ false = le-ltb _ _ (omega (arith, length-append text following)) in
+    let taken : take n (text ++ following) ≡ text = take_at text following n refl in
+    let dropped : drop n (text ++ following) ≡ following = drop_at text following n refl in
     let front_size : length front ≡ 4 + n = omega (arith, length-append (word n) text) in
-    let again : zeros (padding layout (4 + n)) behind ≡ Ok rest = subst (λ (m : ℕ). zeros (padding layout m) behind ≡ Ok rest) front_size (zeros_again (padding layout (length front)) rest) in
+    let again : zeros (padding layout (4 + n)) following ≡ Ok rest = subst (λ (m : ℕ). zeros (padding layout m) following ≡ Ok rest) front_size (zeros_again (padding layout (length front)) rest) in
     ap (counted_at layout wants_text) regrouped
-    ∙ ap (λ (w : Result (ℕ × List ℕ) Fault). w >>= λ x. counted_behind layout wants_text x.0 x.1) first
-    ∙ (λ i. cond (long i) (Err short) (cond (may_stand wants_text (taken i)) (zeros (padding layout (4 + n)) (dropped i) >>= λ r. Ok (taken i, r)) (Err (at rule.BAD_TEXT (text ++ behind)))))
-    ∙ (λ i. cond (stands i) (again i >>= λ r. Ok (text, r)) (Err (at rule.BAD_TEXT (text ++ behind))))
+    ∙ ap (λ (w : Result (ℕ × List ℕ) Fault). w >>= λ x. counted_after layout wants_text x.0 x.1) first
+    ∙ (λ i. cond (long i) (Err short) (cond (may_stand wants_text (taken i)) (zeros (padding layout (4 + n)) (dropped i) >>= λ r. Ok (taken i, r)) (Err (at rule.BAD_TEXT (text ++ following)))))
+    ∙ (λ i. cond (stands i) (again i >>= λ r. Ok (text, r)) (Err (at rule.BAD_TEXT (text ++ following))))
 
 -- Ids
 
@@ -246,12 +246,12 @@ unfolding id_at
 id_takes nullable bytes id rest fits e =
     let b = bind_ok (word_at bytes) (λ n. cond (is_id nullable (cast_signed w32 n.0)) (Ok (cast_signed w32 n.0, n.1)) (Err (at rule.BAD_VALUE bytes))) (id, rest) e in
     let n = b.0.0 in
-    let behind = b.0.1 in
-    let w = word_takes bytes n behind fits b.1 in
-    let t = then_ok (is_id nullable (cast_signed w32 n)) (at rule.BAD_VALUE bytes) (Ok (cast_signed w32 n, behind)) (id, rest) b.2 in
+    let following = b.0.1 in
+    let w = word_takes bytes n following fits b.1 in
+    let t = then_ok (is_id nullable (cast_signed w32 n)) (at rule.BAD_VALUE bytes) (Ok (cast_signed w32 n, following)) (id, rest) b.2 in
     let same : word n ≡ signed_word (cast_signed w32 n) = ap word (sym (of_z-to_z w32 n w.1)) in
-    let found : TakesId nullable bytes (cast_signed w32 n) behind = record { takes = subst (λ (xs : List ℕ). Takes bytes xs behind) same w.0; allowed = t.0; fits = word_fits n w.1 } in
-    moved (λ (z : ℤ) (r : List ℕ). TakesId nullable bytes z r) (cast_signed w32 n) behind id rest t.1 found
+    let found : TakesId nullable bytes (cast_signed w32 n) following = record { takes = subst (λ (xs : List ℕ). Takes bytes xs following) same w.0; allowed = t.0; fits = word_fits n w.1 } in
+    moved (λ (z : ℤ) (r : List ℕ). TakesId nullable bytes z r) (cast_signed w32 n) following id rest t.1 found
 
 pub id_again : (nullable : Bool) (id : ℤ) (rest : List ℕ) → FitsSigned w32 id → is_id nullable id ≡ true → id_at nullable (signed_word id ++ rest) ≡ Ok (id, rest)
 unfolding id_at

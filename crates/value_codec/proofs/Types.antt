@@ -1,4 +1,4 @@
--- What the number of a type names, and what the fields of a header may be.
+-- What the number of a type names, and which values the fields of a header may have.
 use Rattle.std.proofs.Common.{◌≡◌, ◌≢◌, ◌≤◌, ◌<◌, ℕ, ◌+◌, ◌/◌, ◌^◌, ◌⊎◌, ℤ, pos, negsuc, Bool, true, false, not, cond, eqb, ◌||◌, ◌&&◌, List, [], ◌∷◌, length, Option, Some, None, refl, sym, ap, subst, ◌∙◌, arith, inl, inr}
 use Rattle.std.proofs.lemmas.Bool.{eqb-true, ne_eqb, ltb-true, lt-ltb, false_from_ne_true}
 use Rattle.std.proofs.lemmas.Bool.Decides.{Decides-int_eq, nat_tests}
@@ -22,7 +22,8 @@ use Rattle.ipdl_base.specs.Deferral.{rank}
 use Rattle.ipdl_base.specs.Sound.{IsSound, is_sync, has_reply, has_number, message_of}
 use Rattle.ipdl_base.proofs.Numbers.{no_protocol}
 use Rattle.value_types.specs.Fits.{IsLivingId, IsFieldNumber, IsTransactionOf}
-use Rattle.value_codec.specs.Frames.{FrameType, goodbye, request, reply, goodbye_number, request_or_reply, carried_type, type_of, are_flags, has_transaction}
+use Rattle.ipdl_base.specs.Sides.{goodbye_number}
+use Rattle.value_codec.specs.Frames.{FrameType, goodbye, request, reply, request_or_reply, carried_type, type_of, are_flags, has_transaction}
 use Rattle.value_codec.specs.Spelling.{truth_byte, compress_flag, request_flags, reply_flags, fault_flags}
 use Rattle.value_codec.proofs.Signed.{fits_word, least_word, greatest_word}
 

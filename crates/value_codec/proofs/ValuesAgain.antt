@@ -1,4 +1,4 @@
--- A value is read again of its bytes, whatever follows them.
+-- A value is read again from its bytes, whatever follows them.
 use Rattle.std.proofs.Common.{◌≡◌, ◌≤◌, ◌<◌, ℕ, zero, suc, ◌^◌, ℤ, Bool, true, false, cond, ltb, List, [], ◌∷◌, ◌++◌, length, replicate, Option, Some, None, Result, Ok, refl, ap, subst, ◌∙◌, arith, append_assoc, length-append, unwrap_or, inl, inr}
 use Rattle.std.proofs.lemmas.Bool.{cases_lt, le-ltb}
 use Rattle.std.specs.Prelude.{IsSomeAnd, slice_get, option_and_then}
@@ -53,7 +53,7 @@ roomy_left depth xs ys h = record { fits = IsBytes-left xs ys h.fits; less = ome
 pub roomy_right : (depth : ℕ) (xs ys : List ℕ) → IsRoomy depth (xs ++ ys) → IsRoomy depth ys
 roomy_right depth xs ys h = record { fits = IsBytes-right xs ys h.fits; less = omega (arith, length-append xs ys, h.less); small = omega (arith, length-append xs ys, h.small) }
 
--- behind a byte, one depth less is enough
+-- after a byte, one depth less is enough
 roomy_inside : (depth : ℕ) (xs ys : List ℕ) → 0 < length xs → IsRoomy (suc depth) (xs ++ ys) → IsRoomy depth ys
 roomy_inside depth xs ys some h = record { fits = IsBytes-right xs ys h.fits; less = omega (arith, length-append xs ys, h.less); small = omega (arith, length-append xs ys, h.small) }
 
@@ -132,7 +132,7 @@ index_fits index fits =
           absurd (omega arith)
     ]
 
--- The parts of values that hold others
+-- The parts of values that contain others
 
 abbrev ReadAgain : {A : Type 0} → Result (A × List ℕ) Fault → A → List ℕ → Type 0
 ReadAgain read x rest = read ≡ Ok (x, rest)
@@ -159,7 +159,7 @@ fields_part : (inside : Inside) (layout : Layout) (fields : List ParamRow) (byte
 unfolding fields_at
 fields_part inside layout fields bytes rest vs again =
     ap (fields_at inside layout fields) (append_assoc (part layout (struct_byte ∷ [])) bytes rest)
-    ∙ ap (λ (r : Result (List ℕ) Fault). r >>= λ behind. values_at inside fields behind >>= λ found. Ok (value.Struct found.0, found.1)) (struct_again layout (bytes ++ rest))
+    ∙ ap (λ (r : Result (List ℕ) Fault). r >>= λ following. values_at inside fields following >>= λ found. Ok (value.Struct found.0, found.1)) (struct_again layout (bytes ++ rest))
     ∙ ap (λ (r : Result (Values × List ℕ) Fault). r >>= λ found. Ok (value.Struct found.0, found.1)) again
 
 union_part : (inside : Inside) (components : List Shape) (index : ℕ) (shape : Shape) (bytes rest : List ℕ) (v : Value) → slice_get components index ≡ Some shape → index < 2 ^ 32 → ReadAgain (inside shape (bytes ++ rest)) v rest → ReadAgain (union_at inside components ((index_bytes index ++ bytes) ++ rest)) (boxed.Union' index one_box v) rest

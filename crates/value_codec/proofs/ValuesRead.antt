@@ -98,13 +98,13 @@ module _ (layout : Layout) (schema : Schema) (inside : Inside) (sound : ReadsSou
   abbrev IsHeld : Shape → List ℕ → (Value → List ℕ → Type 0) → Type 0
   IsHeld shape bytes S = (held : Held-Value-Maybe-0) (r : List ℕ) → Takes bytes (held_bytes layout schema (Some shape) held) r → HeldHasType schema shape held → AllByRecursion IsCarriedId (held_actor_ids held) → S (boxed.Maybe' held) r
 
-  held_read : (shape : Shape) (S : Value → List ℕ → Type 0) (bytes : List ℕ) (flag : Bool) (behind : List ℕ) (v : Value) (rest : List ℕ) → Takes bytes (part layout (truth_byte flag ∷ [])) behind → held_at inside shape flag behind ≡ Ok (v, rest) → IsHeld shape bytes S → S v rest
+  held_read : (shape : Shape) (S : Value → List ℕ → Type 0) (bytes : List ℕ) (flag : Bool) (following : List ℕ) (v : Value) (rest : List ℕ) → Takes bytes (part layout (truth_byte flag ∷ [])) following → held_at inside shape flag following ≡ Ok (v, rest) → IsHeld shape bytes S → S v rest
   unfolding held_at
-  held_read shape S bytes false behind v rest t e h = moved S (boxed.Maybe' None') behind v rest e (h None' behind t tt tt)
-  held_read shape S bytes true behind v rest t e h =
-      let b = bind_ok (inside shape behind) (λ held. Ok (boxed.Maybe' (Some' one_box held.0), held.1)) (v, rest) e in
-      let f = sound shape behind b.0.0 b.0.1 t.rest_fits b.1 in
-      moved S (boxed.Maybe' (Some' one_box b.0.0)) b.0.1 v rest b.2 (h (Some' one_box b.0.0) b.0.1 (Takes-then bytes (part layout (1 ∷ [])) behind (value_bytes layout schema shape b.0.0) b.0.1 t f.takes) f.type f.ids)
+  held_read shape S bytes false following v rest t e h = moved S (boxed.Maybe' None') following v rest e (h None' following t tt tt)
+  held_read shape S bytes true following v rest t e h =
+      let b = bind_ok (inside shape following) (λ held. Ok (boxed.Maybe' (Some' one_box held.0), held.1)) (v, rest) e in
+      let f = sound shape following b.0.0 b.0.1 t.rest_fits b.1 in
+      moved S (boxed.Maybe' (Some' one_box b.0.0)) b.0.1 v rest b.2 (h (Some' one_box b.0.0) b.0.1 (Takes-then bytes (part layout (1 ∷ [])) following (value_bytes layout schema shape b.0.0) b.0.1 t f.takes) f.type f.ids)
 
   maybe_read : (shape : Shape) (S : Value → List ℕ → Type 0) (bytes : List ℕ) (v : Value) (rest : List ℕ) → IsBytes bytes → maybe_at inside layout shape bytes ≡ Ok (v, rest) → IsHeld shape bytes S → S v rest
   unfolding maybe_at
@@ -115,7 +115,7 @@ module _ (layout : Layout) (schema : Schema) (inside : Inside) (sound : ReadsSou
   struct_read : (t : ℕ) (name : List ℕ) (fields : List ParamRow) → slice_get schema.types t ≡ Some (Struct name fields) → (bytes : List ℕ) (v : Value) (rest : List ℕ) → IsBytes bytes → fields_at inside layout fields bytes ≡ Ok (v, rest) → IsRead layout schema (Named t) bytes v rest
   unfolding fields_at
   struct_read t name fields is bytes v rest fits e =
-      let b = bind_ok (struct_at layout bytes) (λ behind. values_at inside fields behind >>= λ found. Ok (value.Struct found.0, found.1)) (v, rest) e in
+      let b = bind_ok (struct_at layout bytes) (λ following. values_at inside fields following >>= λ found. Ok (value.Struct found.0, found.1)) (v, rest) e in
       let c = bind_ok (values_at inside fields b.0) (λ found. Ok (value.Struct found.0, found.1)) (v, rest) b.2 in
       let s = struct_takes layout bytes b.0 fits b.1 in
       let o = values_read fields b.0 c.0.0 c.0.1 s.rest_fits c.1 in
@@ -127,13 +127,13 @@ module _ (layout : Layout) (schema : Schema) (inside : Inside) (sound : ReadsSou
         ids = o.ids;
       })
 
-  component_read : (t index : ℕ) (component : Option Shape) → component_of schema (Named t) index ≡ component → (bytes behind : List ℕ) (v : Value) (rest : List ℕ) → Takes bytes (index_bytes index) behind → component_at inside component index bytes behind ≡ Ok (v, rest) → IsRead layout schema (Named t) bytes v rest
+  component_read : (t index : ℕ) (component : Option Shape) → component_of schema (Named t) index ≡ component → (bytes following : List ℕ) (v : Value) (rest : List ℕ) → Takes bytes (index_bytes index) following → component_at inside component index bytes following ≡ Ok (v, rest) → IsRead layout schema (Named t) bytes v rest
   unfolding component_at
-  component_read t index None is bytes behind v rest w e = absurd cc
-  component_read t index (Some shape) is bytes behind v rest w e =
-      let b = bind_ok (inside shape behind) (λ held. Ok (boxed.Union' index one_box held.0, held.1)) (v, rest) e in
-      let f = sound shape behind b.0.0 b.0.1 w.rest_fits b.1 in
-      let whole = Takes-then bytes (index_bytes index) behind (value_bytes layout schema shape b.0.0) b.0.1 w f.takes in
+  component_read t index None is bytes following v rest w e = absurd cc
+  component_read t index (Some shape) is bytes following v rest w e =
+      let b = bind_ok (inside shape following) (λ held. Ok (boxed.Union' index one_box held.0, held.1)) (v, rest) e in
+      let f = sound shape following b.0.0 b.0.1 w.rest_fits b.1 in
+      let whole = Takes-then bytes (index_bytes index) following (value_bytes layout schema shape b.0.0) b.0.1 w f.takes in
       moved (IsRead layout schema (Named t) bytes) (boxed.Union' index one_box b.0.0) b.0.1 v rest b.2 (record {
         takes = subst (λ (o : Option Shape). Takes bytes (index_bytes index ++ option_map_or (λ component. value_bytes layout schema component b.0.0) o []) b.0.1) (sym is) whole;
         type = subst (λ (o : Option Shape). IsSomeAnd o (λ component. HasType schema component b.0.0)) (sym is) f.type;

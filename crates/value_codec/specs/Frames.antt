@@ -1,4 +1,4 @@
--- Reading a frame: its header and its payload, with the first fault that is met.
+-- Reading a frame, header and payload, up to the first fault.
 use Rattle.std.specs.Prelude.{ℕ, ◌+◌, ◌==◌, ◌||◌, not, nat_lt, int_lt, ℤ, pos, Bool, true, false, if◌then◌else◌, List, [], ◌∷◌, length, drop, Option, Some, None, unwrap_or, Result, Ok, Err}
 use Rattle.std.specs.Int.{w32, cast_signed}
 use Rattle.std.specs.Ordering.{int_eq}
@@ -15,6 +15,7 @@ use Rattle.ipdl_base.specs.declared.schema.Kind.TheVariants as kind
 use Rattle.ipdl_base.specs.declared.schema.MessageRow.{MessageRow}
 use Rattle.ipdl_base.specs.declared.schema.Schema.{Schema}
 use Rattle.ipdl_base.specs.Sound.{message_of}
+use Rattle.ipdl_base.specs.Sides.{goodbye_number}
 use Rattle.value_types.specs.declared.layout.Layout.{Layout}
 use Rattle.value_types.specs.declared.layout.TheConstants.{MARK}
 use Rattle.value_types.specs.Sizes.{padding}
@@ -25,11 +26,11 @@ use Rattle.value_codec.specs.declared.header.FrameType.TheVariants as read
 use Rattle.value_codec.specs.Reading.{◌>>=◌, at, short, zeros, id_at, Inside, values_at, value_at}
 use Rattle.value_codec.specs.Spelling.{mark_of, request_flags, reply_flags, fault_flags}
 
--- how many bytes stand before the payload
+-- the number of bytes before the payload
 abbrev pub header_size : Layout → ℕ
 header_size layout = length (mark_of layout) + 24
 
--- the six fields behind the mark
+-- the six fields after the mark
 abbrev pub header_in : List ℕ → Header
 header_in bytes = record {
   size = little_number 4 bytes;
@@ -43,15 +44,11 @@ header_in bytes = record {
 abbrev pub header_of : Layout → List ℕ → Header
 header_of layout bytes = header_in (drop (length (mark_of layout)) bytes)
 
--- the mark stands in front where the layout has one
+-- the bytes begin with the mark, if the layout has one
 abbrev pub has_mark : Layout → List ℕ → Bool
 has_mark layout bytes = if layout.marked then little_number 4 bytes == little_number 4 MARK else true
 
--- the type of a goodbye
-abbrev pub goodbye_number : ℕ
-goodbye_number = 4294901760
-
--- What a type names: a goodbye, or a request or a reply of a message.
+-- What a type names: a goodbye, or the request or the reply of a message.
 pub data FrameType : Type 0 where
   goodbye : FrameType
   request : MessageRow → FrameType
@@ -79,7 +76,7 @@ are_flags goodbye flags = flags == 0
 are_flags (request row) flags = flags == request_flags row
 are_flags (reply row) flags = (flags == reply_flags row) || (flags == fault_flags row)
 
--- the type may have the route, the number and the transaction
+-- the type may have the route, the number of a request, and the transaction
 abbrev pub is_route : FrameType → ℤ → Bool
 is_route goodbye route = int_eq route (pos 0)
 is_route _ route = int_lt (pos 0) route
@@ -97,7 +94,7 @@ is_transaction goodbye transaction = int_eq transaction (pos 0)
 is_transaction (request row) transaction = has_transaction row.semantics transaction
 is_transaction (reply row) transaction = has_transaction row.semantics transaction
 
--- The first rule that a header breaks, with its offset behind the mark.
+-- The first rule that a header breaks, with its offset after the mark.
 abbrev pub type_fault : Header → FrameType → Option (ℕ × ℕ)
 type_fault header type =
     if not (are_flags type header.flags) then Some (12, (rule.BAD_FLAGS).number) else
@@ -112,23 +109,23 @@ fault_of_type header (Some type) = type_fault header type
 abbrev pub fields_fault : Layout → Schema → Header → Option (ℕ × ℕ)
 fields_fault layout schema header = if nat_lt layout.most_payload header.size then Some (0, (rule.LARGE_PAYLOAD).number) else fault_of_type header (type_of schema header.number)
 
--- behind a mark every offset is greater by its length
-abbrev pub behind_mark : Layout → Option (ℕ × ℕ) → Option (ℕ × ℕ)
-behind_mark layout None = None
-behind_mark layout (Some (offset, rule)) = Some (length (mark_of layout) + offset, rule)
+-- after a mark every offset is greater by the length of the mark
+abbrev pub after_mark : Layout → Option (ℕ × ℕ) → Option (ℕ × ℕ)
+after_mark layout None = None
+after_mark layout (Some (offset, rule)) = Some (length (mark_of layout) + offset, rule)
 
 -- the first rule that a whole header breaks, with its offset in the frame
 abbrev pub header_fault : Layout → Schema → List ℕ → Option (ℕ × ℕ)
-header_fault layout schema bytes = if has_mark layout bytes then behind_mark layout (fields_fault layout schema (header_of layout bytes)) else Some (0, (rule.BAD_MARK).number)
+header_fault layout schema bytes = if has_mark layout bytes then after_mark layout (fields_fault layout schema (header_of layout bytes)) else Some (0, (rule.BAD_MARK).number)
 
 -- Payloads
 
--- what a payload says, where nothing is left behind it: the id of a new actor, and the body
+-- the content of a payload, if no bytes are left: the id of a new actor, and the body
 unfoldable pub ended : ℤ → Body → List ℕ → Result (ℤ × Body) Fault
 ended made body [] = Ok (made, body)
 ended made body (b ∷ bytes) = Err (at rule.LONG_PAYLOAD (b ∷ bytes))
 
--- the id of the actor that a constructor makes; of another message 0, which takes no bytes
+-- the id of the actor that a constructor makes; for any other message 0, which takes no bytes
 unfoldable pub made_at : Kind → List ℕ → Result (ℤ × List ℕ) Fault
 made_at kind.Normal bytes = Ok (pos 0, bytes)
 made_at (kind.Constructor p) bytes = id_at false bytes
@@ -144,7 +141,7 @@ reason_of semantics b = if b == 3 then Some HandlerRejected else (if b == 4 then
 
 unfoldable pub reason_in : Layout → Option Reason → List ℕ → List ℕ → Result (Reason × List ℕ) Fault
 reason_in layout None bytes rest = Err (at rule.BAD_VALUE bytes)
-reason_in layout (Some reason) bytes rest = zeros (padding layout 1) rest >>= λ behind. Ok (reason, behind)
+reason_in layout (Some reason) bytes rest = zeros (padding layout 1) rest >>= λ following. Ok (reason, following)
 
 unfoldable pub reason_at : Layout → Semantics → List ℕ → Result (Reason × List ℕ) Fault
 reason_at layout semantics [] = Err short
@@ -166,7 +163,7 @@ fault_at layout row bytes = do
   reason ← reason_at layout row.semantics bytes
   ended (pos 0) (body.Fault reason.0) reason.1
 
--- what the payload of a frame with these flags says: the id of a new actor, and the body
+-- the content of the payload of a frame with these flags: the id of a new actor, and the body
 abbrev pub contents_by : Inside → Layout → FrameType → ℕ → List ℕ → Result (ℤ × Body) Fault
 contents_by inside layout goodbye flags bytes = ended (pos 0) body.Goodbye bytes
 contents_by inside layout (request row) flags bytes = request_at inside row bytes

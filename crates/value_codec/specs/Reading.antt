@@ -1,4 +1,4 @@
--- Reading values from left to right, with the first fault that is met.
+-- Reading values from left to right, up to the first fault.
 use Rattle.std.specs.Prelude.{◌≡◌, ℕ, zero, suc, ◌+◌, ◌==◌, nat_lt, ℤ, pos, negsuc, Bool, true, false, if◌then◌else◌, List, [], ◌∷◌, length, take, drop, slice_get, Option, Some, None, Result, Ok, Err}
 use Rattle.std.specs.Int.{w32, cast_signed}
 use Rattle.std.specs.Str.{is_utf8}
@@ -25,13 +25,13 @@ use Rattle.value_codec.specs.declared.fault.Refusal.{Refusal}
 use Rattle.value_codec.specs.declared.fault.Refusal.TheVariants as refusal
 use Rattle.value_codec.specs.Spelling.{struct_byte}
 
--- a step, and what is done with what it gives
+-- a step, followed by a step on its result
 infixl 10 ◌>>=◌
 abbrev pub ◌>>=◌ : {A B : Type 0} → Result A Fault → (A → Result B Fault) → Result B Fault
 (Ok x) >>= f = f x
 (Err e) >>= f = Err e
 
--- A function's result, through `view`, is that of reading; it may give up only for want of memory.
+-- The result of a function, through `view`, is that of reading; the function may also fail because memory runs out.
 abbrev pub Fails : {Y : Type 0} → Refusal → Result Y Fault → Type 0
 Fails refusal.NoMemory read = Unit {0}
 Fails (refusal.Broken f) read = read ≡ Err f
@@ -44,11 +44,11 @@ Gives view (Err e) read = Fails e read
 abbrev pub at : Rule → List ℕ → Fault
 at broken bytes = record { rule = broken.number; left = length bytes }
 
--- a byte is wanted where none is left
+-- the payload ends too early
 abbrev pub short : Fault
 short = at rule.SHORT_PAYLOAD []
 
--- so many zeros: the bytes behind them
+-- n zeros; gives the bytes after them
 unfoldable pub zeros : ℕ → List ℕ → Result (List ℕ) Fault
 zeros zero bytes = Ok bytes
 zeros (suc n) [] = Err short
@@ -59,7 +59,7 @@ zeros (suc n) (suc b ∷ bytes) = Err (at rule.BAD_PADDING (suc b ∷ bytes))
 abbrev pub word_at : List ℕ → Result (ℕ × List ℕ) Fault
 word_at bytes = if nat_lt (length bytes) 4 then Err short else Ok (little_number 4 bytes, drop 4 bytes)
 
--- so many bytes, and the zeros behind them
+-- n bytes, and the zeros after them
 unfoldable pub field_at : Layout → ℕ → List ℕ → Result (List ℕ × List ℕ) Fault
 field_at layout n bytes =
     if nat_lt (length bytes) n then Err short else
@@ -72,16 +72,16 @@ flag_at layout (zero ∷ bytes) = zeros (padding layout 1) bytes >>= λ rest. Ok
 flag_at layout (suc zero ∷ bytes) = zeros (padding layout 1) bytes >>= λ rest. Ok (true, rest)
 flag_at layout (suc (suc b) ∷ bytes) = Err (at rule.BAD_TAG (suc (suc b) ∷ bytes))
 
--- the byte in front of a struct
+-- the byte before the fields of a struct
 unfoldable pub struct_at : Layout → List ℕ → Result (List ℕ) Fault
 struct_at layout [] = Err short
 struct_at layout (b ∷ bytes) = if b == struct_byte then zeros (padding layout 1) bytes else Err (at rule.BAD_TAG (b ∷ bytes))
 
--- bytes may stand where text may be wanted
+-- bytes are allowed, where text may be required
 abbrev pub may_stand : Bool → List ℕ → Bool
 may_stand wants_text bytes = if wants_text then is_utf8 bytes else true
 
--- a length in four bytes, and that many bytes, which may have to be text
+-- a length in four bytes, and that number of bytes, which must be text if text is required
 unfoldable pub counted_at : Layout → Bool → List ℕ → Result (List ℕ × List ℕ) Fault
 counted_at layout wants_text bytes = do
   n ← word_at bytes
@@ -90,7 +90,7 @@ counted_at layout wants_text bytes = do
       (zeros (padding layout (4 + n.0)) (drop n.0 n.1) >>= λ rest. Ok (take n.0 n.1, rest))
       else Err (at rule.BAD_TEXT n.1))
 
--- an id may be that of an actor: it is positive, or 0 where null may stand
+-- an id may be that of an actor: it is positive, or 0 if null is allowed
 abbrev pub is_id : Bool → ℤ → Bool
 is_id nullable (pos zero) = nullable
 is_id nullable (pos (suc n)) = true
@@ -101,7 +101,7 @@ id_at nullable bytes = do
   n ← word_at bytes
   if is_id nullable (cast_signed w32 n.0) then Ok (cast_signed w32 n.0, n.1) else Err (at rule.BAD_VALUE bytes)
 
--- what reading takes the bytes of a builtin for; those of a builtin that is not carried are none
+-- the values that the bytes of a builtin are read as; a builtin that is not carried has no bytes
 unfoldable pub flag_value_at : Layout → List ℕ → Result (Value × List ℕ) Fault
 flag_value_at layout bytes = do
   b ← flag_at layout bytes
@@ -169,7 +169,7 @@ builtin_at layout builtin.FileDescriptor bytes = not_carried bytes
 abbrev pub Inside : Type 0
 Inside = Shape → List ℕ → Result (Value × List ℕ) Fault
 
--- so many values of one type
+-- n values of one type
 unfoldable pub elements_at : Inside → Shape → ℕ → List ℕ → Result (Values × List ℕ) Fault
 elements_at inside shape zero bytes = Ok (values.Nothing, bytes)
 elements_at inside shape (suc n) bytes = do
@@ -191,7 +191,7 @@ array_at inside shape bytes = do
   elements ← elements_at inside shape n.0 n.1
   Ok (value.Array elements.0, elements.1)
 
--- what stands behind the flag of a maybe
+-- what follows the flag of a maybe
 unfoldable pub held_at : Inside → Shape → Bool → List ℕ → Result (Value × List ℕ) Fault
 held_at inside shape false bytes = Ok (boxed.Maybe' boxed.None', bytes)
 held_at inside shape true bytes = do
@@ -209,7 +209,7 @@ fields_at inside layout fields bytes = do
   found ← values_at inside fields rest
   Ok (value.Struct found.0, found.1)
 
--- the component with the index, which has to be there
+-- the component with the index, which must exist
 unfoldable pub component_at : Inside → Option Shape → ℕ → List ℕ → List ℕ → Result (Value × List ℕ) Fault
 component_at inside None index bytes rest = Err (at rule.BAD_TAG bytes)
 component_at inside (Some shape) index bytes rest = do
@@ -226,7 +226,7 @@ row_at inside layout None bytes = not_carried bytes
 row_at inside layout (Some (Struct name fields)) bytes = fields_at inside layout fields bytes
 row_at inside layout (Some (Union name components)) bytes = union_at inside components bytes
 
--- a value of a type, and the bytes behind it
+-- a value of a type, and the bytes after it
 abbrev pub shape_at : Inside → Layout → Schema → Shape → List ℕ → Result (Value × List ℕ) Fault
 shape_at inside layout schema (Builtin b) bytes = builtin_at layout b bytes
 shape_at inside layout schema (Using name) bytes = bytes_at layout bytes
@@ -237,7 +237,8 @@ shape_at inside layout schema (Maybe' _ s) bytes = maybe_at inside layout s byte
 shape_at inside layout schema (Unique' _ s) bytes = maybe_at inside layout s bytes
 shape_at inside layout schema (Endpoint p managed) bytes = not_carried bytes
 
--- The same where values stand less than so deep inside each other. Each value has a byte of its own, so a depth above the number of bytes is enough.
+-- The same where values nest less than `depth` deep. Each value has a byte of its own, so a depth above the number of
+-- bytes is enough.
 unfoldable pub value_at : ℕ → Layout → Schema → Shape → List ℕ → Result (Value × List ℕ) Fault
 value_at zero layout schema shape bytes = Err short
 value_at (suc depth) layout schema shape bytes = shape_at (value_at depth layout schema) layout schema shape bytes

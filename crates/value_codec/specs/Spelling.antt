@@ -28,11 +28,11 @@ use Rattle.value_types.specs.Fits.{Fits}
 use Rattle.value_types.specs.Shapes.{builtin_of, element_of, held_by, fields_of, component_of}
 use Rattle.value_types.specs.Sizes.{padding, number_bytes, payload_size}
 
--- bytes, with the zeros behind them
+-- bytes, and the zeros after them
 abbrev pub part : Layout → List ℕ → List ℕ
 part layout bytes = bytes ++ replicate (padding layout (length bytes)) 0
 
--- a number in four bytes, and a signed one
+-- a number in four bytes, and a signed number
 abbrev pub word : ℕ → List ℕ
 word n = little_bytes 4 n
 
@@ -43,19 +43,19 @@ abbrev pub truth_byte : Bool → ℕ
 truth_byte false = 0
 truth_byte true = 1
 
--- the byte in front of a struct
+-- the byte before the fields of a struct
 abbrev pub struct_byte : ℕ
 struct_byte = 0x53
 
--- how many bytes a number of the type has
+-- the number of bytes of a number of the type
 abbrev pub width : Shape → ℕ
 width shape = option_map_or number_bytes (builtin_of shape) 0
 
--- a text or bytes, behind their length
+-- a text or bytes, after their length
 abbrev pub counted : Layout → List ℕ → List ℕ
 counted layout bytes = part layout (word (length bytes) ++ bytes)
 
--- The index of a component. One that four bytes do not hold is spelled by no bytes.
+-- The index of a component. An index that does not fit in four bytes is spelled by numbers that are not bytes.
 abbrev pub index_bytes : ℕ → List ℕ
 index_bytes index = if nat_lt index (2 ^ 32) then word index else replicate 4 index
 
@@ -63,7 +63,7 @@ abbrev pub count : Values → ℕ
 count values.Nothing = 0
 count (First' _ v _ vs) = suc (count vs)
 
--- A value of a type. What stands where the type has no part takes no bytes.
+-- A value of a type. A part of the value for which the type has none takes no bytes.
 abbrev mutual
   pub value_bytes : Layout → Schema → Shape → Value → List ℕ
   value_bytes layout schema shape (value.Bool b) = part layout (truth_byte b ∷ [])
@@ -77,7 +77,7 @@ abbrev mutual
   value_bytes layout schema shape (Maybe' held) = held_bytes layout schema (held_by shape) held
   value_bytes layout schema shape (value.Actor id) = signed_word id
 
-  -- a maybe: 0, or 1 and what it holds
+  -- a maybe: 0, or 1 and the value in it
   pub held_bytes : Layout → Schema → Option Shape → Held-Value-Maybe-0 → List ℕ
   held_bytes layout schema inner None' = part layout (0 ∷ [])
   held_bytes layout schema inner (Some' _ v) = part layout (1 ∷ []) ++ option_map_or (λ shape. value_bytes layout schema shape v) inner []
@@ -93,14 +93,14 @@ abbrev mutual
   values_bytes layout schema (field ∷ fields) values.Nothing = []
   values_bytes layout schema (field ∷ fields) (First' _ v _ vs) = value_bytes layout schema field.shape v ++ values_bytes layout schema fields vs
 
--- the byte of a fault; that the channel closed is never said in a frame
+-- the byte of a fault; `ChannelClosed` is in no frame
 abbrev pub reason_byte : Reason → ℕ
 reason_byte reason.ChannelClosed = 0
 reason_byte reason.HandlerRejected = 3
 reason_byte reason.ActorDestroyed = 4
 reason_byte reason.ResolverDestroyed = 5
 
--- the id of the actor that a constructor makes, in front of its values
+-- the id of the actor that a constructor makes, before its values
 abbrev pub made_bytes : Kind → ℤ → List ℕ
 made_bytes kind.Normal made = []
 made_bytes (kind.Constructor p) made = signed_word made
@@ -122,7 +122,8 @@ body_bytes layout schema row made body.Goodbye = []
 abbrev pub payload_bytes : Layout → Schema → Message → List ℕ
 payload_bytes layout schema message = body_bytes layout schema (message_of schema message.number) message.made message.body
 
--- The flags: 1 of a sync message, 2 times its level, 8 of a reply, 16 of a fault, 32 and 64 of the two ways to compress.
+-- The flags: 1 for a sync message, 2 times its level, 8 for a reply, 16 for a fault, 32 and 64 for the two ways to
+-- compress.
 abbrev pub sync_flag : MessageRow → ℕ
 sync_flag row = truth_byte (is_sync row.semantics)
 
@@ -146,7 +147,7 @@ body_flags row (body.Reply vs) = option_map_or reply_flags row 0
 body_flags row (body.Fault reason) = option_map_or fault_flags row 0
 body_flags row body.Goodbye = 0
 
--- what stands in front of a frame
+-- the mark before a frame
 abbrev pub mark_of : Layout → List ℕ
 mark_of layout = if layout.marked then MARK else []
 
@@ -163,7 +164,7 @@ fields_bytes size route number flags seq transaction = address_bytes size route 
 abbrev pub header_bytes : Layout → ℕ → ℤ → ℕ → ℕ → ℤ → ℤ → List ℕ
 header_bytes layout size route number flags seq transaction = mark_of layout ++ fields_bytes size route number flags seq transaction
 
--- a message in front of its payload
+-- the header of a message, before its payload
 abbrev pub message_header : Layout → Schema → Message → List ℕ
 message_header layout schema message =
     header_bytes layout (length (payload_bytes layout schema message)) message.route message.number (body_flags (message_of schema message.number) message.body) message.seq message.transaction

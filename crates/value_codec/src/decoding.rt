@@ -1,3 +1,4 @@
+//! Decodes frames.
 ghost use Rattle.std.specs.Prelude.{◌≡◌, ℕ, ◌≤◌, List, length, take};
 ghost use Rattle.ipdl_base.specs.declared.message.Message.{Message};
 ghost use Rattle.ipdl_base.specs.Plain.{plain_body};
@@ -9,27 +10,27 @@ ghost use Rattle.value_codec.specs.Frames as frames;
 ghost use Rattle.value_codec.specs.Reading.{Gives};
 
 use crate::fault::{Fault, Refusal};
-use crate::header::{Header, behind, frame_type, header_fault, header_of, header_size};
+use crate::header::{Header, following, frame_type, header_fault, header_of, header_size};
 use crate::payload;
 use ipdl_base::{Body, Message, Schema};
 use std::alloc::Global;
 use value_types::{Layout, NEW, OLD};
 
-/// What bytes begin.
+/// What bytes begin with.
 #[derive(Drop)]
-pub enum Decoded {
-    /// A message, whose frame is so many of the bytes.
+pub enum DecodeResult {
+    /// A message, and the number of bytes of its frame.
     Frame(Message, usize),
-    /// Less than a frame: so many bytes are wanted to the end of the header or, where the header is
-    /// there, to the end of the frame.
+    /// Less than a frame. The number is how many bytes are missing from the header or, if the header is
+    /// complete, from the frame.
     Short(usize),
-    /// No frame: at this offset the rule on frames of this number (`Rule`) is the first that is broken.
+    /// No frame: the offset and the number of the first rule on frames (`Rule`) that is broken.
     Bad(usize, u8),
-    /// There was no memory for the message.
+    /// Memory ran out.
     NoMemory,
 }
 
-/// The message of a frame with this header, whose payload says this.
+/// Returns the message of a frame with this header and this body.
 fn message_from(header: &Header, made: i32, body: Body) -> Message
     ensures { result ≡ decoding.message_from header.now made body }
 {
@@ -43,7 +44,7 @@ fn message_from(header: &Header, made: i32, body: Body) -> Message
     }
 }
 
-/// What the payload of a whole frame says, whose header breaks no rule.
+/// Reads the payload of a complete frame whose header breaks no rule.
 fn contents(
     alloc: Global,
     layout: Layout,
@@ -64,7 +65,7 @@ fn contents(
     }
 }
 
-/// What a whole frame of so many bytes is.
+/// Decodes a complete frame of `size` bytes.
 fn whole(
     alloc: Global,
     layout: Layout,
@@ -72,7 +73,7 @@ fn whole(
     header: &Header,
     size: usize,
     payload: &[u8],
-) -> Decoded
+) -> DecodeResult
     requires sound { IsSound schema.now }
     requires size { size ≡ whole_size layout header.now }
     ensures { Yields result (with_contents layout header.now
@@ -80,35 +81,38 @@ fn whole(
         (frames.type_of schema.now header.now.number) payload.now)) }
 {
     match contents(alloc, layout, schema, header, payload) {
-        Ok((made, body)) => Decoded::Frame(message_from(header, made, body), size),
-        Err(Refusal::Broken(fault)) => Decoded::Bad(size.saturating_sub(fault.left), fault.rule),
-        Err(Refusal::NoMemory) => Decoded::NoMemory,
+        Ok((made, body)) => DecodeResult::Frame(message_from(header, made, body), size),
+        Err(Refusal::Broken(fault)) => DecodeResult::Bad(
+            size.saturating_sub(fault.left),
+            fault.rule,
+        ),
+        Err(Refusal::NoMemory) => DecodeResult::NoMemory,
     }
 }
 
-/// The payload behind a header.
+/// Returns the payload that follows a header.
 fn payload_in<'b>(layout: Layout, header: &Header, bytes: &'b [u8]) -> &'b [u8]
     requires { whole_size layout header.now ≤ length bytes.now }
     ensures { result.now ≡ decoding.payload_in layout header.now bytes.now }
 {
-    let (payload, _) = behind(header_size(layout), bytes).split_at(header.size as usize);
+    let (payload, _) = following(header_size(layout), bytes).split_at(header.size as usize);
     payload
 }
 
-/// What bytes begin behind a header that breaks no rule.
-fn behind_header(
+/// Decodes bytes with a header that breaks no rule.
+fn after_header(
     alloc: Global,
     layout: Layout,
     schema: &Schema,
     header: &Header,
     bytes: &[u8],
-) -> Decoded
+) -> DecodeResult
     requires sound { IsSound schema.now }
-    ensures { Yields result (decoding.behind_sound_header layout schema.now header.now bytes.now) }
+    ensures { Yields result (decoding.after_sound_header layout schema.now header.now bytes.now) }
 {
     let size = header_size(layout) + header.size as usize;
     if bytes.len() < size {
-        return Decoded::Short(size - bytes.len());
+        return DecodeResult::Short(size - bytes.len());
     }
     whole(
         alloc,
@@ -120,36 +124,37 @@ fn behind_header(
     )
 }
 
-/// What bytes with a whole header begin.
-fn with_header(alloc: Global, layout: Layout, schema: &Schema, bytes: &[u8]) -> Decoded
+/// Decodes bytes with a complete header.
+fn with_header(alloc: Global, layout: Layout, schema: &Schema, bytes: &[u8]) -> DecodeResult
     requires sound { IsSound schema.now }
     requires whole { frames.header_size layout ≤ length bytes.now }
-    ensures { Yields result (decoding.behind_header layout schema.now bytes.now (frames.header_fault layout schema.now bytes.now)) }
+    ensures { Yields result (decoding.after_header layout schema.now bytes.now (frames.header_fault layout schema.now bytes.now)) }
 {
     let header = header_of(layout, bytes);
     match header_fault(layout, schema, &header, bytes) {
-        Some((offset, rule)) => Decoded::Bad(offset, rule),
-        None => behind_header(alloc, layout, schema, &header, bytes),
+        Some((offset, rule)) => DecodeResult::Bad(offset, rule),
+        None => after_header(alloc, layout, schema, &header, bytes),
     }
 }
 
-/// What bytes begin in a layout.
+/// Decodes bytes in a layout.
 #[tactic(auto, unfolding(crate::specs::Decoding::begins))]
-fn begun(alloc: Global, layout: Layout, schema: &Schema, bytes: &[u8]) -> Decoded
+fn begun(alloc: Global, layout: Layout, schema: &Schema, bytes: &[u8]) -> DecodeResult
     requires { IsSound schema.now }
     ensures { Yields result (begins layout schema.now bytes.now) }
 {
     let front = header_size(layout);
     if bytes.len() < front {
-        return Decoded::Short(front - bytes.len());
+        return DecodeResult::Short(front - bytes.len());
     }
     with_header(alloc, layout, schema, bytes)
 }
 
-/// What the bytes begin in the new layout (docs/frames.md). Bytes may follow the frame.
-pub fn decode(alloc: Global, schema: &Schema, bytes: &[u8]) -> Decoded
+/// Decodes the frame in the new layout that the bytes begin with (docs/frames.md). Bytes may follow the
+/// frame.
+pub fn decode(alloc: Global, schema: &Schema, bytes: &[u8]) -> DecodeResult
     requires { IsSound schema.now }
-    // What is answered is true of the bytes, and no message but this one has its frame there.
+    // The result is true of the bytes, and no other message has its frame there.
     ensures told { IsTrueOf NEW schema.now bytes.now result }
     ensures fits { HasFitting schema.now result }
     ensures frame { (message : Message) (n : ℕ) → FrameBegins NEW schema.now bytes.now message n → IsFrame result message n }
@@ -160,10 +165,11 @@ pub fn decode(alloc: Global, schema: &Schema, bytes: &[u8]) -> Decoded
     begun(alloc, NEW, schema, bytes)
 }
 
-/// What the bytes begin in the old layout (docs/frames.md). Bytes may follow the frame.
-pub fn decode_old(alloc: Global, schema: &Schema, bytes: &[u8]) -> Decoded
+/// Decodes the frame in the old layout that the bytes begin with (docs/frames.md). Bytes may follow the
+/// frame.
+pub fn decode_old(alloc: Global, schema: &Schema, bytes: &[u8]) -> DecodeResult
     requires { IsSound schema.now }
-    // What is answered is true of the bytes, and no message but this one has its frame there.
+    // The result is true of the bytes, and no other message has its frame there.
     ensures told { IsTrueOf OLD schema.now bytes.now result }
     ensures fits { HasFitting schema.now result }
     ensures frame { (message : Message) (n : ℕ) → FrameBegins OLD schema.now bytes.now message n → IsFrame result message n }

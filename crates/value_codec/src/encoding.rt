@@ -1,3 +1,4 @@
+//! Encodes messages as frames.
 ghost use Rattle.std.specs.Prelude.{◌≡◌, ◌<◌, ◌≤◌, ◌+◌, ◌++◌, min, Err, OnOk, OnErr, IfOk, IfErr};
 ghost use Rattle.ipdl_base.specs.Sound.{IsSound};
 ghost use Rattle.value_types.specs.declared.layout.TheConstants.{NEW};
@@ -17,9 +18,11 @@ use value_types::{NEW, payload_size};
 /// Why a message is not encoded.
 #[derive(Clone, Copy, Debug, PartialEq, Eq, Error)]
 pub enum EncodeFault {
-    /// The payload has so many bytes, or at least so many where this is the greatest `usize`.
+    /// The payload has more bytes than a frame may have. The number is its size, or the greatest `usize` if
+    /// it is larger.
     #[error("a payload of {0} bytes is too large for a frame")]
     TooLarge(usize),
+    /// Memory ran out.
     #[error("no memory")]
     NoMemory,
 }
@@ -32,7 +35,7 @@ impl From<AllocError> for EncodeFault {
     }
 }
 
-/// How many bytes the frame of a message has in the new layout, or the greatest `usize` where it has
+/// Returns the number of bytes of a message's frame in the new layout, or the greatest `usize` if there are
 /// more. Takes no memory.
 pub fn frame_size(schema: &Schema, message: &Message) -> usize
     requires { IsSound schema.now }
@@ -41,8 +44,8 @@ pub fn frame_size(schema: &Schema, message: &Message) -> usize
     payload_size(schema, NEW, message).saturating_add(NEW.header)
 }
 
-/// The frame of a message in the new layout (docs/frames.md), in one buffer of its size. A payload
-/// of more than 4,096 bytes is `TooLarge`, which takes no memory.
+/// Returns the frame of a message in the new layout (docs/frames.md), in one buffer of its size. If the
+/// payload has more than 4,096 bytes, the error is `TooLarge`, and no memory is taken.
 pub fn new_frame(alloc: Global, schema: &Schema, message: &Message) -> Result<Vec<u8>, EncodeFault>
     requires sound { IsSound schema.now }
     requires fits { Fits schema.now message.now }
@@ -60,8 +63,8 @@ pub fn new_frame(alloc: Global, schema: &Schema, message: &Message) -> Result<Ve
     Ok(frame)
 }
 
-/// Appends the frame of a message in the new layout (docs/frames.md). A payload of more than 4,096
-/// bytes is `TooLarge`, which takes no memory. An error leaves `out` as it was.
+/// Appends the frame of a message in the new layout (docs/frames.md). If the payload has more than 4,096
+/// bytes, the error is `TooLarge`, and no memory is taken. An error leaves `out` unchanged.
 pub fn encode(
     alloc: Global,
     schema: &Schema,

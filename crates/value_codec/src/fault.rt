@@ -1,4 +1,4 @@
-//! Why bytes of a payload are not read.
+//! Why the bytes of a payload are not read.
 
 ghost use Rattle.std.specs.Prelude.{◌≡◌};
 ghost use Rattle.value_codec.specs.declared.fault.Refusal.TheVariants.{NoMemory};
@@ -10,7 +10,7 @@ use std::alloc::{AllocError, AllocFailed};
 pub(crate) struct Fault {
     /// The number of the rule.
     pub(crate) rule: u8,
-    /// How many bytes of the payload are left at its place.
+    /// The number of bytes of the payload that are left at the place of the fault.
     pub(crate) left: usize,
 }
 

@@ -9,11 +9,8 @@ ghost use Rattle.value_codec.specs.Frames.{seen};
 ghost use Rattle.value_codec.specs.Spelling as spelling;
 
 use byteorder::{ByteOrder, LittleEndian};
-use ipdl_base::{Compress, MessageRow, Rule, Schema, Semantics};
+use ipdl_base::{Compress, GOODBYE_NUMBER, MessageRow, Rule, Schema, Semantics};
 use value_types::{Layout, MARK};
-
-/// The number of the type of a goodbye.
-const GOODBYE: u32 = 0xffff_0000;
 
 /// The six fields of a header.
 #[derive(Clone, Copy)]
@@ -37,7 +34,7 @@ pub(crate) enum FrameType<'s> {
     Reply(&'s MessageRow),
 }
 
-/// The flag of a sync message.
+/// Returns the flag of a sync message.
 fn sync_flag(row: &MessageRow) -> u32
     ensures { result ≡ spelling.sync_flag row.now }
 {
@@ -47,7 +44,7 @@ fn sync_flag(row: &MessageRow) -> u32
     }
 }
 
-/// The flag of how a message compresses.
+/// Returns the flag of a message's compression.
 fn compress_flag(compress: Compress) -> u32
     ensures { result ≡ spelling.compress_flag compress }
 {
@@ -58,29 +55,29 @@ fn compress_flag(compress: Compress) -> u32
     }
 }
 
-/// The flags of a request.
+/// Returns the flags of a request.
 pub(crate) fn request_flags(row: &MessageRow) -> u32
     ensures { result ≡ spelling.request_flags row.now }
 {
     sync_flag(row) + 2 * u32::from(row.level.rank()) + compress_flag(row.compress)
 }
 
-/// The flags of a reply with values.
+/// Returns the flags of a reply with values.
 pub(crate) fn reply_flags(row: &MessageRow) -> u32
     ensures { result ≡ spelling.reply_flags row.now }
 {
     sync_flag(row) + 8
 }
 
-/// The flags of a reply with a fault.
+/// Returns the flags of a reply with a fault.
 pub(crate) fn fault_flags(row: &MessageRow) -> u32
     ensures { result ≡ spelling.fault_flags row.now }
 {
     sync_flag(row) + 24
 }
 
-/// The bytes behind so many.
-pub(crate) fn behind(count: usize, bytes: &[u8]) -> &[u8]
+/// Returns the bytes after the first `count`.
+pub(crate) fn following(count: usize, bytes: &[u8]) -> &[u8]
     requires { count ≤ length bytes.now }
     ensures { result.now ≡ drop count bytes.now }
 {
@@ -88,38 +85,38 @@ pub(crate) fn behind(count: usize, bytes: &[u8]) -> &[u8]
     rest
 }
 
-/// The number in the four bytes behind so many.
-fn word_behind(count: usize, bytes: &[u8]) -> u32
+/// Returns the number in the four bytes after the first `count`.
+fn word_after(count: usize, bytes: &[u8]) -> u32
     requires { count + 4 ≤ length bytes.now }
     ensures { result ≡ little_number 4 (drop count bytes.now) }
 {
-    LittleEndian::read_u32(behind(count, bytes))
+    LittleEndian::read_u32(following(count, bytes))
 }
 
-/// The signed number in the four bytes behind so many.
-fn signed_word_behind(count: usize, bytes: &[u8]) -> i32
+/// Returns the signed number in the four bytes after the first `count`.
+fn signed_word_after(count: usize, bytes: &[u8]) -> i32
     requires { count + 4 ≤ length bytes.now }
     ensures { result ≡ cast_signed w32 (little_number 4 (drop count bytes.now)) }
 {
-    word_behind(count, bytes).cast_signed()
+    word_after(count, bytes).cast_signed()
 }
 
-/// The fields in the bytes behind a mark.
+/// Returns the fields in the bytes after a mark.
 fn header_in(bytes: &[u8]) -> Header
     requires { 24 ≤ length bytes.now }
     ensures { result ≡ frames.header_in bytes.now }
 {
     Header {
-        size: word_behind(0, bytes),
-        route: signed_word_behind(4, bytes),
-        number: word_behind(8, bytes),
-        flags: word_behind(12, bytes),
-        seq: signed_word_behind(16, bytes),
-        transaction: signed_word_behind(20, bytes),
+        size: word_after(0, bytes),
+        route: signed_word_after(4, bytes),
+        number: word_after(8, bytes),
+        flags: word_after(12, bytes),
+        seq: signed_word_after(16, bytes),
+        transaction: signed_word_after(20, bytes),
     }
 }
 
-/// How many bytes the mark of a layout has.
+/// Returns the number of bytes of a layout's mark.
 pub(crate) fn mark_size(layout: Layout) -> usize
     ensures value { result ≡ length (spelling.mark_of layout) }
     ensures few { result ≤ 4 }
@@ -127,7 +124,7 @@ pub(crate) fn mark_size(layout: Layout) -> usize
     if layout.marked { 4 } else { 0 }
 }
 
-/// How many bytes stand before the payload of a frame.
+/// Returns the number of bytes before the payload of a frame.
 pub(crate) fn header_size(layout: Layout) -> usize
     ensures value { result ≡ frames.header_size layout }
     ensures few { result ≤ 28 }
@@ -135,15 +132,15 @@ pub(crate) fn header_size(layout: Layout) -> usize
     mark_size(layout) + 24
 }
 
-/// The header that bytes begin with.
+/// Returns the header that the bytes begin with.
 pub(crate) fn header_of(layout: Layout, bytes: &[u8]) -> Header
     requires { frames.header_size layout ≤ length bytes.now }
     ensures { result ≡ frames.header_of layout bytes.now }
 {
-    header_in(behind(mark_size(layout), bytes))
+    header_in(following(mark_size(layout), bytes))
 }
 
-/// Whether the mark stands in front where the layout has one.
+/// Returns whether the bytes begin with the mark, if the layout has one.
 fn has_mark(layout: Layout, bytes: &[u8]) -> bool
     requires { 4 ≤ length bytes.now }
     ensures { result ≡ frames.has_mark layout bytes.now }
@@ -155,7 +152,7 @@ fn has_mark(layout: Layout, bytes: &[u8]) -> bool
     }
 }
 
-/// What a message's number names.
+/// Returns whether a message's number names its request or its reply.
 fn request_or_reply(number: u32, row: &MessageRow) -> FrameType<'_>
     ensures { seen result ≡ frames.request_or_reply number row.now }
 {
@@ -166,12 +163,13 @@ fn request_or_reply(number: u32, row: &MessageRow) -> FrameType<'_>
     }
 }
 
-/// What a number of a type names: a request or a reply that is carried, or a goodbye.
+/// Returns what the number of a type names: a request or a reply that is carried, or a goodbye; otherwise
+/// `None`.
 pub(crate) fn frame_type(schema: &Schema, number: u32) -> Option<FrameType<'_>>
     requires { IsSound schema.now }
     ensures { option_map seen result ≡ frames.type_of schema.now number }
 {
-    if number == GOODBYE {
+    if number == GOODBYE_NUMBER {
         return Some(FrameType::Goodbye);
     }
     match schema.message(number) {
@@ -186,7 +184,7 @@ pub(crate) fn frame_type(schema: &Schema, number: u32) -> Option<FrameType<'_>>
     }
 }
 
-/// Whether flags are those of a type.
+/// Returns whether flags are those of a type.
 fn are_flags(frame_type: &FrameType, flags: u32) -> bool
     ensures { result ≡ frames.are_flags (seen frame_type.now) flags }
 {
@@ -197,7 +195,7 @@ fn are_flags(frame_type: &FrameType, flags: u32) -> bool
     }
 }
 
-/// Whether a type may have a route.
+/// Returns whether a type may have a route.
 fn is_route(frame_type: &FrameType, route: i32) -> bool
     ensures { result ≡ frames.is_route (seen frame_type.now) route }
 {
@@ -207,7 +205,7 @@ fn is_route(frame_type: &FrameType, route: i32) -> bool
     }
 }
 
-/// Whether a type may have a number of a request.
+/// Returns whether a type may have a number of a request.
 fn is_seq(frame_type: &FrameType, seq: i32) -> bool
     ensures { result ≡ frames.is_seq (seen frame_type.now) seq }
 {
@@ -217,7 +215,7 @@ fn is_seq(frame_type: &FrameType, seq: i32) -> bool
     }
 }
 
-/// Whether a message may have a transaction.
+/// Returns whether a message may have a transaction.
 fn has_transaction(semantics: Semantics, transaction: i32) -> bool
     ensures { result ≡ frames.has_transaction semantics transaction }
 {
@@ -227,7 +225,7 @@ fn has_transaction(semantics: Semantics, transaction: i32) -> bool
     }
 }
 
-/// Whether a type may have a transaction.
+/// Returns whether a type may have a transaction.
 fn is_transaction(frame_type: &FrameType, transaction: i32) -> bool
     ensures { result ≡ frames.is_transaction (seen frame_type.now) transaction }
 {
@@ -239,7 +237,7 @@ fn is_transaction(frame_type: &FrameType, transaction: i32) -> bool
     }
 }
 
-/// The first rule that the fields behind the type's number break, with its offset behind the mark.
+/// Returns the first rule that the fields after the type's number break, with its offset after the mark.
 fn type_fault(header: &Header, frame_type: &FrameType) -> Option<(usize, u8)>
     ensures value { result ≡ frames.type_fault header.now (seen frame_type.now) }
     ensures few { IfSome result (λ fault. fault.0 ≤ 20) }
@@ -259,7 +257,7 @@ fn type_fault(header: &Header, frame_type: &FrameType) -> Option<(usize, u8)>
     None
 }
 
-/// The first rule that fields break, with its offset behind the mark.
+/// Returns the first rule that fields break, with its offset after the mark.
 fn fields_fault(layout: Layout, schema: &Schema, header: &Header) -> Option<(usize, u8)>
     requires { IsSound schema.now }
     ensures value { result ≡ frames.fields_fault layout schema.now header.now }
@@ -274,7 +272,7 @@ fn fields_fault(layout: Layout, schema: &Schema, header: &Header) -> Option<(usi
     }
 }
 
-/// The first rule that a header breaks, with its offset in the frame.
+/// Returns the first rule that a header breaks, with its offset in the frame.
 pub(crate) fn header_fault(
     layout: Layout,
     schema: &Schema,

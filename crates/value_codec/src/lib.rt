@@ -1,6 +1,6 @@
-//! Messages as bytes: the one frame of each message, in either layout, and the first rule that bytes
-//! break which are no frame; and what follows of frames, for every schema and every list of bytes
-//! (docs/frames.md).
+//! Messages as bytes: the one frame of each message in either layout, the first rule that bytes break which
+//! are not a
+//! frame, and the laws of frames, for every schema and every list of bytes (docs/frames.md).
 #![tactic(auto)]
 
 mod decoding;
@@ -14,7 +14,7 @@ mod reading;
 mod values;
 mod writing;
 
-pub use decoding::{Decoded, decode, decode_old};
+pub use decoding::{DecodeResult, decode, decode_old};
 pub use encoding::{EncodeFault, encode, frame_size, new_frame};
 pub use laws::{
     frames_are_read_again, frames_have_one_spelling, frames_look_at_no_box,

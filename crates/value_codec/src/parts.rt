@@ -10,7 +10,7 @@ use byteorder::{ByteOrder, LittleEndian};
 use std::alloc::AllocError;
 use value_types::Layout;
 
-/// How many zeros stand behind so many bytes.
+/// Returns the number of zeros after a part of `size` bytes.
 pub(crate) fn padding(layout: Layout, size: usize) -> usize
     ensures value { result ≡ sizes.padding layout size }
     ensures few { result < 4 }
@@ -31,7 +31,7 @@ fn put_zeros(out: &mut Vec<u8>, count: usize) -> Result<(), AllocError>
     out.extend_from_slice(&zeros[..count])
 }
 
-/// Appends bytes, with the zeros behind them.
+/// Appends bytes and the zeros after them.
 pub(crate) fn put_part(out: &mut Vec<u8>, layout: Layout, bytes: &[u8]) -> Result<(), AllocError>
     ensures { OnOk result (out.new.items ≡ out.old.items ++ part layout bytes.now) }
 {
@@ -39,7 +39,7 @@ pub(crate) fn put_part(out: &mut Vec<u8>, layout: Layout, bytes: &[u8]) -> Resul
     put_zeros(out, padding(layout, bytes.len()))
 }
 
-/// Appends the lowest bytes of a number, with the zeros behind them.
+/// Appends the lowest `count` bytes of a number and the zeros after them.
 pub(crate) fn put_number(
     out: &mut Vec<u8>,
     layout: Layout,
@@ -79,7 +79,7 @@ pub(crate) fn put_signed_word(out: &mut Vec<u8>, number: i32) -> Result<(), Allo
     out.extend_from_slice(&field)
 }
 
-/// Appends bytes behind their length, with the zeros behind them.
+/// Appends the length of bytes, the bytes, and the zeros after them.
 pub(crate) fn put_counted(out: &mut Vec<u8>, layout: Layout, bytes: &[u8]) -> Result<(), AllocError>
     ensures { OnOk result (out.new.items ≡ out.old.items ++ counted layout bytes.now) }
 {

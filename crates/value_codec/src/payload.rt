@@ -1,4 +1,4 @@
-//! What the payload of a frame says.
+//! Reads the payload of a frame.
 
 ghost use Rattle.std.specs.Prelude.{◌≡◌, unwrap_or, []};
 ghost use Rattle.ipdl_base.specs.Plain.{plain_body};
@@ -15,7 +15,7 @@ use ipdl_base::{Body, Kind, MessageRow, ParamRow, Reason, Rule, Schema, Semantic
 use std::alloc::Global;
 use value_types::Layout;
 
-/// What a payload says, where nothing is left behind it: the id of a new actor, and the body.
+/// Returns the id of a new actor and the body, if no bytes are left.
 #[tactic(auto, unfolding(crate::specs::Frames::ended))]
 fn ended(made: i32, body: Body, bytes: &[u8]) -> Result<(i32, Body), Refusal>
     ensures { Gives (λ x. (x.0, plain_body x.1)) result (frames.ended made (plain_body body) bytes.now) }
@@ -26,7 +26,7 @@ fn ended(made: i32, body: Body, bytes: &[u8]) -> Result<(i32, Body), Refusal>
     }
 }
 
-/// Takes the id of the actor that a constructor makes; of another message it is 0, and takes nothing.
+/// Takes the id of the actor that a constructor makes. For any other message it is 0, and no byte is taken.
 #[tactic(auto, unfolding(crate::specs::Frames::made_at))]
 fn made(kind: Kind, bytes: &[u8]) -> Result<(i32, &[u8]), Refusal>
     ensures { Gives (λ x. (x.0, x.1.now)) result (frames.made_at kind bytes.now) }
@@ -37,7 +37,7 @@ fn made(kind: Kind, bytes: &[u8]) -> Result<(i32, &[u8]), Refusal>
     }
 }
 
-/// The reason that a resolver was let go, which only an async message gives.
+/// Returns the reason that a resolver was destroyed, which only a reply to an async message may give.
 fn resolver_reason(semantics: Semantics) -> Option<Reason>
     ensures { result ≡ frames.resolver_reason semantics }
 {
@@ -47,7 +47,7 @@ fn resolver_reason(semantics: Semantics) -> Option<Reason>
     }
 }
 
-/// The reason with this byte.
+/// Returns the reason with this byte, or `None`.
 fn reason_of(semantics: Semantics, byte: u8) -> Option<Reason>
     ensures { result ≡ frames.reason_of semantics byte }
 {
@@ -79,7 +79,7 @@ fn reason(layout: Layout, semantics: Semantics, bytes: &[u8]) -> Result<(Reason,
     }
 }
 
-/// What a request says.
+/// Reads the payload of a request.
 #[tactic(auto, unfolding(crate::specs::Frames::request_at))]
 fn request(
     alloc: Global,
@@ -96,7 +96,7 @@ fn request(
     ended(made, Body::Request(found), rest)
 }
 
-/// The returns of a message; of one without returns, none.
+/// Returns the returns of a message, or an empty list if it has no returns.
 fn returns_of(row: &MessageRow) -> &[ParamRow]
     ensures { result.now ≡ unwrap_or row.now.returns [] }
 {
@@ -106,7 +106,7 @@ fn returns_of(row: &MessageRow) -> &[ParamRow]
     }
 }
 
-/// What a reply with values says.
+/// Reads the payload of a reply with values.
 #[tactic(auto, unfolding(crate::specs::Frames::returns_at))]
 fn reply(
     alloc: Global,
@@ -122,7 +122,7 @@ fn reply(
     ended(0, Body::Reply(found), rest)
 }
 
-/// What a reply with a fault says.
+/// Reads the payload of a reply with a fault.
 #[tactic(auto, unfolding(crate::specs::Frames::fault_at))]
 fn fault(layout: Layout, row: &MessageRow, bytes: &[u8]) -> Result<(i32, Body), Refusal>
     ensures { Gives (λ x. (x.0, plain_body x.1)) result (frames.fault_at layout row.now bytes.now) }
@@ -131,7 +131,7 @@ fn fault(layout: Layout, row: &MessageRow, bytes: &[u8]) -> Result<(i32, Body), 
     ended(0, Body::Fault(reason), rest)
 }
 
-/// What the payload of a frame with these flags says: the id of a new actor, and the body.
+/// Reads the payload of a frame with these flags: the id of a new actor, and the body.
 pub(crate) fn contents(
     alloc: Global,
     layout: Layout,

@@ -12,10 +12,10 @@ use byteorder::{ByteOrder, LittleEndian};
 use ipdl_base::Rule;
 use value_types::Layout;
 
-/// The byte in front of a struct.
+/// The byte before the fields of a struct.
 pub(crate) const STRUCT_BYTE: u8 = 0x53;
 
-/// That a rule is broken at the first of the bytes.
+/// Returns that a rule is broken at the first of the bytes.
 pub(crate) fn broken(rule: Rule, bytes: &[u8]) -> Refusal
     ensures { result ≡ refusal.Broken (reading.at rule bytes.now) }
 {
@@ -25,7 +25,7 @@ pub(crate) fn broken(rule: Rule, bytes: &[u8]) -> Refusal
     })
 }
 
-/// That a byte is wanted where none is left.
+/// Returns that the payload ends too early.
 pub(crate) fn short() -> Refusal
     ensures { result ≡ refusal.Broken reading.short }
 {
@@ -35,7 +35,7 @@ pub(crate) fn short() -> Refusal
     })
 }
 
-/// Takes so many zeros.
+/// Takes `count` zeros.
 #[tactic(auto, unfolding(crate::specs::Reading::zeros))]
 pub(crate) fn zeros(count: usize, bytes: &[u8]) -> Result<&[u8], Refusal>
     ensures { Gives (λ rest. rest.now) result (reading.zeros count bytes.now) }
@@ -45,7 +45,7 @@ pub(crate) fn zeros(count: usize, bytes: &[u8]) -> Result<&[u8], Refusal>
     while left > 0 {
         match rest {
             [] => return Err(short()),
-            [0, behind @ ..] => rest = behind,
+            [0, following @ ..] => rest = following,
             [_, ..] => return Err(broken(Rule::BAD_PADDING, rest)),
         }
         left -= 1;
@@ -63,7 +63,7 @@ pub(crate) fn word(bytes: &[u8]) -> Result<(u32, &[u8]), Refusal>
     Ok((LittleEndian::read_u32(bytes), &bytes[4..]))
 }
 
-/// Takes so many bytes, and the zeros behind them.
+/// Takes `count` bytes and the zeros after them.
 #[tactic(auto, unfolding(crate::specs::Reading::field_at))]
 pub(crate) fn field(layout: Layout, count: usize, bytes: &[u8]) -> Result<(&[u8], &[u8]), Refusal>
     ensures read { Gives (λ x. (x.0.now, x.1.now)) result (reading.field_at layout count bytes.now) }
@@ -96,7 +96,7 @@ pub(crate) fn flag(layout: Layout, bytes: &[u8]) -> Result<(bool, &[u8]), Refusa
     }
 }
 
-/// Takes the byte in front of a struct.
+/// Takes the byte before the fields of a struct.
 #[tactic(auto, unfolding(crate::specs::Reading::struct_at))]
 pub(crate) fn struct_byte(layout: Layout, bytes: &[u8]) -> Result<&[u8], Refusal>
     ensures { Gives (λ rest. rest.now) result (reading.struct_at layout bytes.now) }
@@ -108,21 +108,21 @@ pub(crate) fn struct_byte(layout: Layout, bytes: &[u8]) -> Result<&[u8], Refusal
     }
 }
 
-/// Whether bytes are UTF-8.
+/// Returns whether bytes are UTF-8.
 fn is_text(bytes: &[u8]) -> bool
     ensures { result ≡ is_utf8 bytes.now }
 {
     std::str::from_utf8(bytes).is_ok()
 }
 
-/// Whether bytes may stand where text may be wanted.
+/// Returns whether bytes are allowed, where text may be required.
 fn may_stand(wants_text: bool, bytes: &[u8]) -> bool
     ensures { result ≡ reading.may_stand wants_text bytes.now }
 {
     if wants_text { is_text(bytes) } else { true }
 }
 
-/// Takes bytes behind their length, which may have to be text.
+/// Takes a length and that number of bytes, which must be text if `wants_text`.
 #[tactic(auto, unfolding(crate::specs::Reading::counted_at))]
 pub(crate) fn counted(
     layout: Layout,
@@ -136,15 +136,15 @@ pub(crate) fn counted(
     if rest.len() < count {
         return Err(short());
     }
-    let (front, behind) = rest.split_at(count);
+    let (front, following) = rest.split_at(count);
     if !may_stand(wants_text, front) {
         return Err(broken(Rule::BAD_TEXT, rest));
     }
-    let behind = zeros(padding(layout, 4 + count), behind)?;
-    Ok((front, behind))
+    let following = zeros(padding(layout, 4 + count), following)?;
+    Ok((front, following))
 }
 
-/// Whether an id may be that of an actor: it is positive, or 0 where null may stand.
+/// Returns whether an id may be that of an actor: it is positive, or 0 if null is allowed.
 fn is_id(nullable: bool, id: i32) -> bool
     ensures { result ≡ reading.is_id nullable id }
 {

@@ -1,7 +1,8 @@
 //! Values of a payload, read by their types.
 //!
-//! A value is read at a depth: how deep values may still stand inside each other. Every value has a
-//! byte of its own, so the depth never ends a payload that is no longer than it.
+//! A value is read with a depth, the number of levels to which values may nest from there. Every value has a
+//! byte of
+//! its own, so a depth above the number of bytes is always enough.
 
 ghost use Rattle.std.specs.Prelude.{◌≡◌, ◌≤◌, slice_get};
 ghost use Rattle.ipdl_base.specs.Plain.{plain, plain_values};
@@ -24,7 +25,7 @@ fn truth(layout: Layout, bytes: &[u8]) -> Result<(Value, &[u8]), Refusal>
     Ok((Value::Bool(b), rest))
 }
 
-/// Takes a signed number of so many bytes.
+/// Takes a signed number of `count` bytes.
 #[tactic(auto, unfolding(crate::specs::Reading::signed_at))]
 fn signed(layout: Layout, count: usize, bytes: &[u8]) -> Result<(Value, &[u8]), Refusal>
     requires low { 1 ≤ count }
@@ -35,7 +36,7 @@ fn signed(layout: Layout, count: usize, bytes: &[u8]) -> Result<(Value, &[u8]), 
     Ok((Value::Int(LittleEndian::read_int128(front, count)), rest))
 }
 
-/// Takes a number of so many bytes.
+/// Takes an unsigned number of `count` bytes.
 #[tactic(auto, unfolding(crate::specs::Reading::unsigned_at))]
 fn unsigned(layout: Layout, count: usize, bytes: &[u8]) -> Result<(Value, &[u8]), Refusal>
     requires low { 1 ≤ count }
@@ -132,7 +133,7 @@ pub(crate) fn value<'b>(
     value_of_shape(alloc, layout, schema, shape, depth - 1, bytes)
 }
 
-/// Takes a value of a type, where the values inside it may stand at this depth.
+/// Takes a value of a type, where the values inside it have this depth.
 #[cycle(reading)]
 fn value_of_shape<'b>(
     alloc: Global,
@@ -199,7 +200,7 @@ fn array<'b>(
     Ok((Value::Array(elements), rest))
 }
 
-/// Takes so many values of one type.
+/// Takes `count` values of one type.
 #[cycle(reading)]
 #[tactic(auto, unfolding(crate::specs::Reading::elements_at))]
 fn elements<'b>(

@@ -1,4 +1,4 @@
-//! Values and messages as bytes.
+//! Writes values and messages as bytes.
 
 ghost use Rattle.std.specs.Prelude.{◌≡◌, ◌≤◌, ◌++◌, ◌^◌, ◌%◌, OnOk, IfOk, option_map, length};
 ghost use Rattle.ipdl_base.specs.Sound.{IsSound};
@@ -14,7 +14,7 @@ use value_types::{
     Layout, MARK, builtin_of, component_of, element_of, fields_of, held_by, number_bytes,
 };
 
-/// The number of values, as far as four bytes hold it.
+/// Returns the number of values modulo 2^32.
 fn count(values: &Values) -> u32
     ensures { result ≡ spelling.count values.now % 2 ^ 32 }
 {
@@ -24,7 +24,7 @@ fn count(values: &Values) -> u32
     }
 }
 
-/// The bytes of a number of a type.
+/// Returns the number of bytes of a number of a type.
 fn width(shape: &Shape) -> usize
     ensures value { result ≡ spelling.width shape.now }
     ensures few { result ≤ 8 }
@@ -122,7 +122,7 @@ fn put_values(
     }
 }
 
-/// The byte of a fault. That the channel closed is said in no frame.
+/// Returns the byte of a fault. `ChannelClosed` is in no frame.
 fn reason_byte(reason: Reason) -> u8
     ensures { result ≡ spelling.reason_byte reason }
 {
@@ -151,7 +151,7 @@ fn put_request(
     put_values(values, out, layout, schema, row.params.as_slice())
 }
 
-/// Appends what a reply gives.
+/// Appends what a reply carries.
 fn put_reply(
     out: &mut Vec<u8>,
     layout: Layout,
@@ -167,8 +167,7 @@ fn put_reply(
     }
 }
 
-/// Appends what a message carries, by the row of its number. Values of a message of which there is
-/// no row are none.
+/// Appends what a message carries, by the row of its number. Values of a message without a row take no bytes.
 pub(crate) fn put_body(
     out: &mut Vec<u8>,
     layout: Layout,
@@ -187,7 +186,7 @@ pub(crate) fn put_body(
     }
 }
 
-/// The flags of a message, by the row of its number.
+/// Returns the flags of a message, by the row of its number.
 fn body_flags(row: Option<&MessageRow>, body: &Body) -> u32
     ensures { result ≡ spelling.body_flags (option_map (λ r. r.now) row.entry) body.now }
 {
@@ -209,7 +208,7 @@ fn put_mark(out: &mut Vec<u8>, layout: Layout) -> Result<(), AllocError>
     Ok(())
 }
 
-/// Appends the fields of a header that say how much goes where.
+/// Appends the first three fields of a header: size, route and number.
 fn put_address(out: &mut Vec<u8>, header: &Header) -> Result<(), AllocError>
     ensures { let h = header.now in OnOk result (out.new.items ≡ out.old.items ++ address_bytes h.size h.route h.number) }
 {
@@ -218,7 +217,7 @@ fn put_address(out: &mut Vec<u8>, header: &Header) -> Result<(), AllocError>
     put_word(out, header.number)
 }
 
-/// Appends the other fields of a header.
+/// Appends the other three fields of a header: flags, number of the request and transaction.
 fn put_order(out: &mut Vec<u8>, header: &Header) -> Result<(), AllocError>
     ensures { let h = header.now in OnOk result (out.new.items ≡ out.old.items ++ order_bytes h.flags h.seq h.transaction) }
 {
@@ -235,7 +234,7 @@ fn put_header(out: &mut Vec<u8>, header: &Header) -> Result<(), AllocError>
     put_order(out, header)
 }
 
-/// The frame of a message, whose payload has so many bytes.
+/// Returns the frame of a message whose payload has `size` bytes.
 pub(crate) fn frame_of(
     alloc: Global,
     layout: Layout,

@@ -130,7 +130,7 @@ mutual
   all_actor_ids-plain values.Nothing = refl
   all_actor_ids-plain (First' _ v _ vs) = λ i. actor_ids-plain v i ++ all_actor_ids-plain vs i
 
--- a fact along a path of facts, both ways
+-- equal statements are equivalent
 pub both : {A B : Type 0} → A ≡ B → A ↔ B
 both p = (transport p, transport⁻¹ p)
 

@@ -1,4 +1,4 @@
--- What the two layouts have to do with each other.
+-- How the two layouts are related.
 use Rattle.std.proofs.Common.{ℕ, ◌+◌, ◌*◌, ◌≤◌, List, [], ◌∷◌, Option, Some, None, unwrap_or, arith}
 use Rattle.std.specs.Option.{option_map_or}
 use Rattle.ipdl_base.specs.declared.message.Body.{Body}
@@ -19,7 +19,7 @@ use Rattle.value_types.specs.Sizes.{padded, number_bytes, value_size, held_size,
 padded_fourfold : (n : ℕ) → padded NEW n ≤ 4 * padded OLD n
 padded_fourfold n = omega arith
 
--- a part that may be there
+-- a part that may be missing
 part_fourfold : {X : Type 0} (f g : X → ℕ) (part : Option X) → ((x : X) → f x ≤ 4 * g x) → option_map_or f part 0 ≤ 4 * option_map_or g part 0
 part_fourfold f g None h = omega arith
 part_fourfold f g (Some x) h = h x
@@ -54,7 +54,7 @@ mutual
   values_fourfold schema (field ∷ fields) values.Nothing = omega arith
   values_fourfold schema (field ∷ fields) (First' _ v _ vs) = sum_fourfold _ _ _ _ (value_fourfold schema field.shape v) (values_fourfold schema fields vs)
 
--- the id in front of a constructor's request is as long in both
+-- the id at the beginning of a constructor's request is equally long in both
 made_fourfold : (kind : Kind) → made_size kind ≤ 4 * made_size kind
 made_fourfold kind = omega arith
 

@@ -1,4 +1,4 @@
--- Values of types whose boxes lie elsewhere.
+-- Values of types whose boxes are elsewhere.
 use Rattle.std.proofs.Common.{◌≡◌, ◌∙◌, ℕ, ◌+◌, ◌<◌, ◌^◌, List, [], ◌++◌, Option, Some, None, refl, ap, unwrap_or}
 use Rattle.std.specs.Prelude.{ℤ, ◌≤ℤ◌, IsTrue, IsSomeAnd, codes, option_map, option_and_then}
 use Rattle.std.specs.Str.{IsUtf8}
@@ -19,7 +19,7 @@ use Rattle.value_types.specs.HasType.{HasType, HeldHasType, AllHaveType, HaveTyp
 use Rattle.value_types.specs.Sizes.{padded, value_size, held_size, elements_size, values_size, number_bytes}
 use Rattle.value_types.specs.ValueText.{value_text, held_text, elements_text, parts_text, hex_digits, digit_count_of}
 
--- what a type is, and what it says of the parts of its values
+-- the kind of a type, and the types of the parts of its values
 pub builtin_of-plain : (shape : Shape) → builtin_of (plain_shape shape) ≡ builtin_of shape
 builtin_of-plain (Builtin b) = refl
 builtin_of-plain (Using name) = refl

@@ -17,9 +17,10 @@ use Rattle.ipdl_base.specs.declared.value.Value.TheVariants as value
 use Rattle.ipdl_base.specs.declared.value.Values.{Values, First'}
 use Rattle.ipdl_base.specs.declared.value.Values.TheVariants as values
 use Rattle.ipdl_base.specs.Sound.{has_reply, message_of}
+use Rattle.ipdl_base.specs.Sides.{goodbye_number}
 use Rattle.value_types.specs.HasType.{HaveTypes}
 
--- the ids of the actors in a value, in the order in which they stand
+-- the ids of the actors in a value, in their order there
 abbrev mutual
   pub actor_ids : Value → List ℤ
   actor_ids (value.Bool b) = []
@@ -41,11 +42,11 @@ abbrev mutual
   all_actor_ids values.Nothing = []
   all_actor_ids (First' _ v _ vs) = actor_ids v ++ all_actor_ids vs
 
--- a number lies in the range of a field of a frame
+-- a number is in the range of a field of a frame
 abbrev pub IsFieldNumber : ℤ → Type 0
 IsFieldNumber n = (negsuc 2147483647 ≤ℤ n) × (n ≤ℤ pos 2147483647)
 
--- a number is positive and lies in that range
+-- a number is positive and in that range
 abbrev pub IsLivingId : ℤ → Type 0
 IsLivingId id = (pos 1 ≤ℤ id) × (id ≤ℤ pos 2147483647)
 
@@ -53,19 +54,19 @@ IsLivingId id = (pos 1 ≤ℤ id) × (id ≤ℤ pos 2147483647)
 abbrev pub IsCarriedId : ℤ → Type 0
 IsCarriedId id = (pos 0 ≤ℤ id) × (id ≤ℤ pos 2147483647)
 
--- a sync message has a transaction, an async one has none
+-- a sync message has a transaction, an async message has none
 abbrev pub IsTransactionOf : Semantics → ℤ → Type 0
 IsTransactionOf Sync transaction = (transaction ≢ pos 0) × IsFieldNumber transaction
 IsTransactionOf Async transaction = transaction ≡ pos 0
 
--- a constructor's request has the id of the actor that it makes, another has none
+-- a constructor's request has the id of the actor that it makes, any other request has 0
 abbrev pub IsMadeBy : Kind → ℤ → Type 0
 IsMadeBy (Constructor p) made = IsLivingId made
 IsMadeBy Normal made = made ≡ pos 0
 IsMadeBy Delete made = made ≡ pos 0
 
--- A reason that a reply may give: a handler rejected it, its actor fell, or, for an async message, its
--- resolver was let go. That the channel closed is never said in a message.
+-- A reason that a reply may give: a handler rejected the request, its actor fell, or, for an async message, its
+-- resolver was destroyed. No message gives the reason that the channel closed.
 abbrev pub IsFaultOf : Semantics → Reason → Type 0
 IsFaultOf semantics ChannelClosed = ⊥
 IsFaultOf semantics HandlerRejected = Unit {0}
@@ -73,14 +74,14 @@ IsFaultOf semantics ActorDestroyed = Unit {0}
 IsFaultOf Async ResolverDestroyed = Unit {0}
 IsFaultOf Sync ResolverDestroyed = ⊥
 
--- A request or a reply has the fields of a message of the row, which is carried.
+-- A request or a reply has the fields of a message of the row, and the row is carried.
 pub record HasFields (row : MessageRow) (message : Message) : Type 0 where
   pub carried : IsTrue row.carried
   pub route : IsLivingId message.route
   pub seq : (message.seq ≢ pos 0) × IsFieldNumber message.seq
   pub transaction : IsTransactionOf row.semantics message.transaction
 
--- A request with values is one of the message of the row.
+-- A request with values is a request of the message of the row.
 pub record IsRequestOf (schema : Schema) (row : MessageRow) (message : Message) (vs : Values) : Type 0 where
   pub found : message_of schema message.number ≡ Some row
   pub number : message.number ≡ row.number
@@ -89,7 +90,7 @@ pub record IsRequestOf (schema : Schema) (row : MessageRow) (message : Message) 
   pub types : HaveTypes schema row.params vs
   pub ids : All IsCarriedId (all_actor_ids vs)
 
--- A reply, whatever it says, is one to the message of the row.
+-- A reply, whatever it carries, is a reply to the message of the row.
 pub record IsReplyTo (schema : Schema) (row : MessageRow) (message : Message) : Type 0 where
   pub found : message_of schema message.number ≡ Some row
   pub number : message.number ≡ row.number + 1
@@ -97,14 +98,14 @@ pub record IsReplyTo (schema : Schema) (row : MessageRow) (message : Message) : 
   pub fields : HasFields row message
   pub made : message.made ≡ pos 0
 
--- A reply gives values of the types of the returns; of a message without returns it gives none.
+-- A reply has values of the types of the returns; for a message without returns it has no values.
 pub record GivesReturns (schema : Schema) (row : MessageRow) (vs : Values) : Type 0 where
   pub types : HaveTypes schema (unwrap_or row.returns []) vs
   pub ids : All IsCarriedId (all_actor_ids vs)
 
 -- A goodbye has its number, and every other field is 0.
 pub record IsGoodbye (message : Message) : Type 0 where
-  pub number : message.number ≡ 4294901760
+  pub number : message.number ≡ goodbye_number
   pub route : message.route ≡ pos 0
   pub seq : message.seq ≡ pos 0
   pub transaction : message.transaction ≡ pos 0

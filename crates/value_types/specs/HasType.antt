@@ -11,11 +11,11 @@ use Rattle.ipdl_base.specs.declared.value.Values.{Values, First'}
 use Rattle.ipdl_base.specs.declared.value.Values.TheVariants as values
 use Rattle.value_types.specs.Shapes.{range_of, float_bits, builtin_of, is_bytes, element_of, held_by, fields_of, component_of}
 
--- a whole number lies in the range of the type
+-- a whole number is in the range of the type
 abbrev pub IsInRange : Shape → ℤ → Type 0
 IsInRange shape n = IsSomeAnd (option_and_then range_of (builtin_of shape)) (λ range. (range.0 ≤ℤ n) × (n ≤ℤ range.1))
 
--- bits are no more than the type has
+-- bits fit in the number of bits that the type has
 abbrev pub IsWithinBits : Shape → ℕ → Type 0
 IsWithinBits shape n = IsSomeAnd (option_and_then float_bits (builtin_of shape)) (λ bits. n < 2 ^ bits)
 
@@ -24,8 +24,8 @@ abbrev pub IsActorOf : Shape → ℤ → Type 0
 IsActorOf (Actor p nullable) id = id ≡ pos 0 → IsTrue nullable
 IsActorOf _ id = ⊥
 
--- A value has a type. The values of Shmem, FileDescriptor, Endpoint and ManagedEndpoint are none,
--- and so are those of a named type that the schema does not have.
+-- A value has a type. Shmem, FileDescriptor, Endpoint and ManagedEndpoint have no values, and neither does a named
+-- type that is not in the schema.
 abbrev mutual
   pub HasType : Schema → Shape → Value → Type 0
   HasType schema shape (value.Bool b) = builtin_of shape ≡ Some builtin.Bool
@@ -39,7 +39,7 @@ abbrev mutual
   HasType schema shape (Maybe' held) = IsSomeAnd (held_by shape) (λ inner. HeldHasType schema inner held)
   HasType schema shape (value.Actor id) = IsActorOf shape id
 
-  -- nothing, or a value of the type
+  -- no value, or a value of the type
   pub HeldHasType : Schema → Shape → Held-Value-Maybe-0 → Type 0
   HeldHasType schema shape None' = Unit {0}
   HeldHasType schema shape (Some' _ v) = HasType schema shape v
@@ -49,7 +49,7 @@ abbrev mutual
   AllHaveType schema shape values.Nothing = Unit {0}
   AllHaveType schema shape (First' _ v _ vs) = HasType schema shape v × AllHaveType schema shape vs
 
-  -- as many values as fields or parameters, each of the type of its own
+  -- one value for each field or parameter, of its type
   pub HaveTypes : Schema → List ParamRow → Values → Type 0
   HaveTypes schema [] values.Nothing = Unit {0}
   HaveTypes schema (field ∷ fields) values.Nothing = ⊥

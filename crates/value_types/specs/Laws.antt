@@ -14,7 +14,7 @@ use Rattle.value_types.specs.HasType.{HasType, HaveTypes}
 use Rattle.value_types.specs.Sizes.{value_size, values_size, payload_size}
 use Rattle.value_types.specs.ValueText.{value_text, values_text}
 
--- Where the boxes of values and types lie makes no difference.
+-- It makes no difference where the boxes of values and types are.
 pub record BoxesSayNothing : Type 0 where
   pub has_type : (schema : Schema) (shape : Shape) (v : Value) → HasType schema shape (plain v) ↔ HasType schema shape v
   pub have_types : (schema : Schema) (params : List ParamRow) (vs : Values) → HaveTypes schema params (plain_values vs) ↔ HaveTypes schema params vs
@@ -28,6 +28,6 @@ pub record BoxesSayNothing : Type 0 where
   pub type_size : (layout : Layout) (schema : Schema) (shape : Shape) (v : Value) → value_size layout schema (plain_shape shape) v ≡ value_size layout schema shape v
   pub type_text : (schema : Schema) (shape : Shape) (v : Value) → value_text schema (plain_shape shape) v ≡ value_text schema shape v
 
--- A payload takes in the new layout at most four times what it takes in the old one.
+-- A payload takes at most four times as many bytes in the new layout as in the old one.
 abbrev pub NewIsAtMostFourTimes : Type 0
 NewIsAtMostFourTimes = (schema : Schema) (message : Message) → payload_size NEW schema message ≤ 4 * payload_size OLD schema message

@@ -1,4 +1,4 @@
--- What a type says of the parts of its values. Named types are looked up in the schema.
+-- The parts of the values of a type. Named types are looked up in the schema.
 use Rattle.std.specs.Prelude.{ℕ, ◌-◌, ◌^◌, ℤ, pos, negsuc, Bool, true, false, List, Option, Some, None, slice_get, option_and_then}
 use Rattle.ipdl_base.specs.declared.builtin.Builtin.{Builtin as BuiltinType}
 use Rattle.ipdl_base.specs.declared.builtin.Builtin.TheVariants as builtin
@@ -8,14 +8,14 @@ use Rattle.ipdl_base.specs.declared.schema.TypeRow.{TypeRow}
 use Rattle.ipdl_base.specs.declared.schema.TypeRow.TheVariants.{Struct, Union}
 use Rattle.ipdl_base.specs.declared.schema.Shape.{Shape, Builtin, Using, Named, Array', Maybe', Unique'}
 
--- the whole numbers of so many bits, signed or not: the least and the greatest
+-- the least and the greatest whole number of `bits` bits, signed or not
 abbrev pub signed : ℕ → Option (ℤ × ℤ)
 signed bits = Some (negsuc (2 ^ (bits - 1) - 1), pos (2 ^ (bits - 1) - 1))
 
 abbrev pub unsigned : ℕ → Option (ℤ × ℤ)
 unsigned bits = Some (pos 0, pos (2 ^ bits - 1))
 
--- the least and the greatest whole number of a builtin, where its values are whole numbers
+-- the least and the greatest whole number of a builtin, if its values are whole numbers
 abbrev pub range_of : BuiltinType → Option (ℤ × ℤ)
 range_of builtin.Char = signed 8
 range_of builtin.Int8 = signed 8
@@ -34,18 +34,18 @@ range_of builtin.Uint64 = unsigned 64
 range_of builtin.UintPtr = unsigned 64
 range_of _ = None
 
--- how many bits a float has
+-- the number of bits of a float or a double
 abbrev pub float_bits : BuiltinType → Option ℕ
 float_bits builtin.Float = Some 32
 float_bits builtin.Double = Some 64
 float_bits _ = None
 
--- the builtin that a type is
+-- the builtin of a type, if it is one
 abbrev pub builtin_of : Shape → Option BuiltinType
 builtin_of (Builtin b) = Some b
 builtin_of _ = None
 
--- whether the values of a type are bytes of any kind: those of a type from C++ are
+-- whether the values of a type are bytes of any kind; those of a type from C++ are
 abbrev pub is_byte_builtin : BuiltinType → Bool
 is_byte_builtin builtin.NsCString = true
 is_byte_builtin builtin.ByteBuf = true
@@ -61,13 +61,13 @@ abbrev pub element_of : Shape → Option Shape
 element_of (Array' _ s) = Some s
 element_of _ = None
 
--- the type of what a maybe or a `UniquePtr` holds
+-- the type of the value in a maybe or a `UniquePtr`
 abbrev pub held_by : Shape → Option Shape
 held_by (Maybe' _ s) = Some s
 held_by (Unique' _ s) = Some s
 held_by _ = None
 
--- the struct or the union that a named type stands for
+-- the struct or the union of a named type
 abbrev pub row_of : Schema → Shape → Option TypeRow
 row_of schema (Named t) = slice_get schema.types t
 row_of schema _ = None

@@ -19,11 +19,11 @@ use Rattle.value_types.specs.Shapes.{builtin_of, element_of, held_by, fields_of,
 abbrev pub hex_digit : ℕ → ℕ
 hex_digit n = if nat_lt n 10 then 48 + n else 87 + n
 
--- a byte by its two digits
+-- the two digits of a byte
 abbrev pub hex_byte : ℕ → List ℕ
 hex_byte byte = hex_digit (byte / 16) ∷ hex_digit (byte % 16) ∷ []
 
--- the last digits of a number, so many, the highest first
+-- the last `count` digits of a number, the highest first
 unfoldable pub hex_digits : ℕ → ℕ → List ℕ
 hex_digits zero n = []
 hex_digits (suc count) n = hex_digits count (n / 16) ++ hex_digit (n % 16) ∷ []
@@ -32,7 +32,8 @@ abbrev pub bool_text : Bool → List ℕ
 bool_text true = codes "true"
 bool_text false = codes "false"
 
--- a byte of a text between quotes: `"`, `\`, line ends and tabs have a word each, and other control bytes their digits
+-- a byte of a text between quotes: `"`, `\`, line ends and tabs have an escape each, and other control bytes their
+-- digits
 abbrev pub escaped : ℕ → List ℕ
 escaped byte =
     if byte == 34 then codes "\\\"" else
@@ -45,7 +46,7 @@ escaped byte =
 abbrev pub quoted : List ℕ → List ℕ
 quoted text = codes "\"" ++ flat_map escaped text ++ codes "\""
 
--- bytes, each by its two digits
+-- bytes, each as two digits
 abbrev pub bytes_text : List ℕ → List ℕ
 bytes_text bytes = codes "h\"" ++ flat_map hex_byte bytes ++ codes "\""
 
@@ -61,7 +62,7 @@ bits_text shape bits = codes "h\"" ++ hex_digits (digit_count_of (builtin_of sha
 abbrev pub actor_text : ℤ → List ℕ
 actor_text id = if int_eq id (pos 0) then codes "null" else codes "#" ++ signed_decimal id
 
--- A value of a type. What stands where the type has no part prints nothing.
+-- A value of a type. A part of the value for which the type has none prints nothing.
 abbrev mutual
   pub value_text : Schema → Shape → Value → List ℕ
   value_text schema shape (value.Bool b) = bool_text b
@@ -75,12 +76,12 @@ abbrev mutual
   value_text schema shape (Maybe' held) = held_text schema (held_by shape) held
   value_text schema shape (value.Actor id) = actor_text id
 
-  -- a maybe by what it holds
+  -- a maybe, with the value in it
   pub held_text : Schema → Option Shape → Held-Value-Maybe-0 → List ℕ
   held_text schema inner None' = codes "none"
   held_text schema inner (Some' _ v) = codes "some " ++ option_map_or (λ shape. value_text schema shape v) inner []
 
-  -- values of one type: before the first stands what is given, and before each other a comma and a blank
+  -- values of one type: `before` precedes the first, and a comma and a blank precede each other one
   pub elements_text : List ℕ → Schema → Shape → Values → List ℕ
   elements_text before schema shape values.Nothing = []
   elements_text before schema shape (First' _ v _ vs) = before ++ value_text schema shape v ++ elements_text (codes ", ") schema shape vs
@@ -91,6 +92,6 @@ abbrev mutual
   parts_text before schema (field ∷ fields) values.Nothing = []
   parts_text before schema (field ∷ fields) (First' _ v _ vs) = before ++ value_text schema field.shape v ++ parts_text (codes ", ") schema fields vs
 
--- the values of parameters, with a comma and a blank between each two
+-- the values of parameters, with a comma and a blank between them
 abbrev pub values_text : Schema → List ParamRow → Values → List ℕ
 values_text schema params vs = parts_text [] schema params vs

@@ -23,7 +23,7 @@ pair = record { protocols = []; types = row.Struct (codes "Pair") (record { name
 abbrev of : ℕ → Bool → Value
 of n b = value.Struct (First' one_box (value.Int (pos n)) one_box (First' one_box (value.Bool b) one_box values.Nothing))
 
--- the struct has the value of a byte, and none of 256 or of one field
+-- the struct's type has the value with the byte 255, but not one with 256 and not one with a single field
 byte_and_truth : HasType pair (Named 0) (of 255 true) ≡ ((HasType pair (Builtin builtin.Uint8) (value.Int (pos 255))) × (HasType pair (Builtin builtin.Bool) (value.Bool true) × Unit {0}))
 byte_and_truth = refl
 

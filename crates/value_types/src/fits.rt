@@ -1,10 +1,11 @@
+//! Decides which values have a type.
 ghost use Rattle.std.specs.Prelude.{◌≡◌, ◌↔◌, IsTrue};
 ghost use Rattle.value_types.specs.HasType.{HasType, HaveTypes, AllHaveType, IsInRange, IsWithinBits, IsActorOf};
 
 use crate::shapes::{builtin_of, component_of, element_of, fields_of, held_by, is_bytes, range_of};
 use ipdl_base::{Builtin, ParamRow, Schema, Shape, Value, Values};
 
-/// Whether a whole number lies in the range of a type.
+/// Returns whether a whole number is in the range of a type.
 fn is_in_range(shape: &Shape, number: i128) -> bool
     ensures { IsTrue result ↔ IsInRange shape.now number }
 {
@@ -17,7 +18,7 @@ fn is_in_range(shape: &Shape, number: i128) -> bool
     }
 }
 
-/// Whether bits are no more than a type has.
+/// Returns whether bits fit in the number of bits that a type has.
 fn is_within_bits(shape: &Shape, bits: u64) -> bool
     ensures { IsTrue result ↔ IsWithinBits shape.now bits }
 {
@@ -28,7 +29,7 @@ fn is_within_bits(shape: &Shape, bits: u64) -> bool
     }
 }
 
-/// Whether an id may be that of an actor of a type.
+/// Returns whether an id may be that of an actor of a type.
 fn is_actor_of(shape: &Shape, id: i32) -> bool
     ensures { IsTrue result ↔ IsActorOf shape.now id }
 {
@@ -38,7 +39,7 @@ fn is_actor_of(shape: &Shape, id: i32) -> bool
     }
 }
 
-/// Whether a value has a type.
+/// Returns whether a value has a type.
 #[cycle(fits)]
 fn has_type(value: &Value, schema: &Schema, shape: &Shape) -> bool
     ensures { IsTrue result ↔ HasType schema.now shape.now value.now }
@@ -73,7 +74,7 @@ fn has_type(value: &Value, schema: &Schema, shape: &Shape) -> bool
     }
 }
 
-/// Whether each value has the type.
+/// Returns whether each value has the type.
 #[cycle(fits)]
 fn all_have_type(values: &Values, schema: &Schema, shape: &Shape) -> bool
     ensures { IsTrue result ↔ AllHaveType schema.now shape.now values.now }
@@ -86,7 +87,7 @@ fn all_have_type(values: &Values, schema: &Schema, shape: &Shape) -> bool
     }
 }
 
-/// Whether there are as many values as fields, each of the type of its own.
+/// Returns whether there is one value for each field, of the type of that field.
 #[cycle(fits)]
 fn have_types(values: &Values, schema: &Schema, fields: &[ParamRow]) -> bool
     ensures { IsTrue result ↔ HaveTypes schema.now fields.now values.now }
@@ -100,15 +101,14 @@ fn have_types(values: &Values, schema: &Schema, fields: &[ParamRow]) -> bool
     }
 }
 
-/// Whether a value has a type. A type of a number that the schema does not have has no value. Takes
-/// no memory.
+/// Returns whether a value has a type. A named type that is not in the schema has no values. Takes no memory.
 pub fn value_fits(schema: &Schema, shape: &Shape, value: &Value) -> bool
     ensures { IsTrue result ↔ HasType schema.now shape.now value.now }
 {
     has_type(value, schema, shape)
 }
 
-/// Whether there are as many values as parameters, each of the type of its own. Takes no memory.
+/// Returns whether there is one value for each parameter, of the type of that parameter. Takes no memory.
 pub fn values_fit(schema: &Schema, params: &[ParamRow], values: &Values) -> bool
     ensures { IsTrue result ↔ HaveTypes schema.now params.now values.now }
 {

@@ -1,9 +1,11 @@
-/// How frames lay out what they carry.
+//! The two layouts of frames.
+
+/// The layout of a frame (docs/frames.md).
 #[derive(Clone, Copy, Debug, PartialEq, Eq)]
 pub struct Layout {
-    /// Whether the mark `IPD2` stands in front.
+    /// Whether a frame begins with the mark `IPD2`.
     pub marked: bool,
-    /// The number of bytes before the payload, the mark among them.
+    /// The number of bytes before the payload, including the mark.
     pub header: usize,
     /// Whether every part takes a multiple of four bytes.
     pub aligned: bool,
@@ -11,10 +13,10 @@ pub struct Layout {
     pub most_payload: usize,
 }
 
-/// The bytes in front of a frame of a layout with a mark.
+/// The first bytes of a frame of a layout with a mark.
 pub const MARK: [u8; 4] = *b"IPD2";
 
-/// The layout of frames that carry no mark.
+/// The layout of frames without the mark.
 pub const OLD: Layout = Layout {
     marked: false,
     header: 24,
@@ -22,7 +24,7 @@ pub const OLD: Layout = Layout {
     most_payload: 1024,
 };
 
-/// The layout of frames that carry the mark.
+/// The layout of frames with the mark.
 pub const NEW: Layout = Layout {
     marked: true,
     header: 28,

@@ -1,9 +1,10 @@
+//! The parts of types: ranges of numbers, elements, fields and components.
 ghost use Rattle.std.specs.Prelude.{◌≡◌, option_map};
 ghost use Rattle.value_types.specs.Shapes as shapes;
 
 use ipdl_base::{Builtin, ParamRow, Schema, Shape, TypeRow};
 
-/// The least and the greatest whole number of a builtin, or nothing where its values are no whole
+/// Returns the least and the greatest whole number of a builtin, or `None` if its values are not whole
 /// numbers.
 pub fn range_of(builtin: Builtin) -> Option<(i128, i128)>
     ensures { result ≡ shapes.range_of builtin }
@@ -23,7 +24,7 @@ pub fn range_of(builtin: Builtin) -> Option<(i128, i128)>
     }
 }
 
-/// The builtin that a type is.
+/// Returns the builtin of a type, or `None` if the type is not a builtin.
 pub fn builtin_of(shape: &Shape) -> Option<Builtin>
     ensures { result ≡ shapes.builtin_of shape.now }
 {
@@ -33,7 +34,7 @@ pub fn builtin_of(shape: &Shape) -> Option<Builtin>
     }
 }
 
-/// Whether the values of a type are bytes of any kind.
+/// Returns whether the values of a type are bytes of any kind.
 pub fn is_bytes(shape: &Shape) -> bool
     ensures { result ≡ shapes.is_bytes shape.now }
 {
@@ -44,7 +45,7 @@ pub fn is_bytes(shape: &Shape) -> bool
     }
 }
 
-/// The type of an array's elements.
+/// Returns the type of an array's elements, or `None` if the type is not an array.
 pub fn element_of(shape: &Shape) -> Option<&Shape>
     ensures { option_map (λ s. s.now) result ≡ shapes.element_of shape.now }
 {
@@ -54,7 +55,7 @@ pub fn element_of(shape: &Shape) -> Option<&Shape>
     }
 }
 
-/// The type of what a maybe or a `UniquePtr` holds.
+/// Returns the type of the value in a maybe or a `UniquePtr`, or `None` for any other type.
 pub fn held_by(shape: &Shape) -> Option<&Shape>
     ensures { option_map (λ s. s.now) result ≡ shapes.held_by shape.now }
 {
@@ -64,7 +65,7 @@ pub fn held_by(shape: &Shape) -> Option<&Shape>
     }
 }
 
-/// The struct or the union that a named type stands for.
+/// Returns the struct or the union of a named type, or `None` if there is none.
 fn row_of<'a>(schema: &'a Schema, shape: &Shape) -> Option<&'a TypeRow>
     ensures { option_map (λ row. row.now) result ≡ shapes.row_of schema.now shape.now }
 {
@@ -74,7 +75,7 @@ fn row_of<'a>(schema: &'a Schema, shape: &Shape) -> Option<&'a TypeRow>
     }
 }
 
-/// The fields of a struct.
+/// Returns the fields of a struct, or `None` if the type is not a struct.
 pub fn fields_of<'a>(schema: &'a Schema, shape: &Shape) -> Option<&'a [ParamRow]>
     ensures { option_map (λ fields. fields.now) result ≡ shapes.fields_of schema.now shape.now }
 {
@@ -84,7 +85,7 @@ pub fn fields_of<'a>(schema: &'a Schema, shape: &Shape) -> Option<&'a [ParamRow]
     }
 }
 
-/// The component of a union with this index.
+/// Returns the component of a union with this index, or `None` if there is none.
 pub fn component_of<'a>(schema: &'a Schema, shape: &Shape, index: u32) -> Option<&'a Shape>
     ensures { option_map (λ s. s.now) result ≡ shapes.component_of schema.now shape.now index }
 {

@@ -1,3 +1,4 @@
+//! The sizes of values and payloads in bytes.
 ghost use Rattle.std.specs.Prelude.{◌≡◌, ◌≤◌, ◌+◌, min, length, unwrap_or, option_map};
 ghost use Rattle.ipdl_base.specs.Sound.{IsSound};
 ghost use Rattle.value_types.specs.Sizes as size;
@@ -6,7 +7,7 @@ use crate::layout::Layout;
 use crate::shapes::{builtin_of, component_of, element_of, fields_of, held_by};
 use ipdl_base::{Body, Builtin, Kind, Message, MessageRow, ParamRow, Schema, Shape, Value, Values};
 
-/// The bytes of a part with those behind it that lead to the next part.
+/// Returns the bytes of a part, including its padding.
 fn padded(layout: Layout, bytes: usize) -> usize
     ensures { result ≡ min (size.padded layout bytes) size.greatest_size }
 {
@@ -17,7 +18,7 @@ fn padded(layout: Layout, bytes: usize) -> usize
     }
 }
 
-/// How many bytes a number of a builtin takes, without padding; 0 where its values are no numbers.
+/// Returns the number of bytes of a number of a builtin, without padding; 0 if its values are not numbers.
 pub fn number_bytes(builtin: Builtin) -> usize
     ensures value { result ≡ size.number_bytes builtin }
     ensures few { result ≤ 8 }
@@ -36,7 +37,7 @@ pub fn number_bytes(builtin: Builtin) -> usize
     }
 }
 
-/// The bytes of a number of a type.
+/// Returns the bytes of a number of a type.
 fn number_size(layout: Layout, shape: &Shape) -> usize
     ensures { result ≡ min (size.number_size layout shape.now) size.greatest_size }
 {
@@ -46,14 +47,14 @@ fn number_size(layout: Layout, shape: &Shape) -> usize
     }
 }
 
-/// The bytes of a text or of bytes, with their length.
+/// Returns the bytes of a text or of bytes, including their length.
 fn bytes_size(layout: Layout, bytes: &[u8]) -> usize
     ensures { result ≡ min (size.bytes_size layout bytes.now) size.greatest_size }
 {
     padded(layout, bytes.len().saturating_add(4))
 }
 
-/// The bytes of a value.
+/// Returns the bytes of a value.
 #[cycle(sizes)]
 fn size_of_value(value: &Value, layout: Layout, schema: &Schema, shape: &Shape) -> usize
     ensures { result ≡ min (size.value_size layout schema.now shape.now value.now) size.greatest_size }
@@ -85,7 +86,7 @@ fn size_of_value(value: &Value, layout: Layout, schema: &Schema, shape: &Shape) 
     }
 }
 
-/// The bytes of values of one type.
+/// Returns the bytes of values of one type.
 #[cycle(sizes)]
 fn size_of_elements(values: &Values, layout: Layout, schema: &Schema, shape: &Shape) -> usize
     ensures { result ≡ min (size.elements_size layout schema.now shape.now values.now) size.greatest_size }
@@ -98,7 +99,7 @@ fn size_of_elements(values: &Values, layout: Layout, schema: &Schema, shape: &Sh
     }
 }
 
-/// The bytes of values of the types of fields.
+/// Returns the bytes of values of the types of fields.
 #[cycle(sizes)]
 fn size_of_values(values: &Values, layout: Layout, schema: &Schema, fields: &[ParamRow]) -> usize
     ensures { result ≡ min (size.values_size layout schema.now fields.now values.now) size.greatest_size }
@@ -113,7 +114,7 @@ fn size_of_values(values: &Values, layout: Layout, schema: &Schema, fields: &[Pa
     }
 }
 
-/// How many bytes a value of a type takes in a payload, or the greatest `usize` where it takes more.
+/// Returns the number of bytes of a value of a type in a payload, or the greatest `usize` if there are more.
 /// Takes no memory.
 pub fn value_size(schema: &Schema, layout: Layout, shape: &Shape, value: &Value) -> usize
     ensures { result ≡ min (size.value_size layout schema.now shape.now value.now) size.greatest_size }
@@ -121,7 +122,7 @@ pub fn value_size(schema: &Schema, layout: Layout, shape: &Shape, value: &Value)
     size_of_value(value, layout, schema, shape)
 }
 
-/// How many bytes values take in a payload, or the greatest `usize` where they take more. Takes no
+/// Returns the number of bytes of values in a payload, or the greatest `usize` if there are more. Takes no
 /// memory.
 pub fn values_size(schema: &Schema, layout: Layout, params: &[ParamRow], values: &Values) -> usize
     ensures { result ≡ min (size.values_size layout schema.now params.now values.now) size.greatest_size }
@@ -129,7 +130,7 @@ pub fn values_size(schema: &Schema, layout: Layout, params: &[ParamRow], values:
     size_of_values(values, layout, schema, params)
 }
 
-/// The bytes of what a request carries.
+/// Returns the bytes of what a request carries.
 fn request_size(layout: Layout, schema: &Schema, values: &Values, row: &MessageRow) -> usize
     ensures { result ≡ min (size.request_size layout schema.now values.now row.now) size.greatest_size }
 {
@@ -140,7 +141,7 @@ fn request_size(layout: Layout, schema: &Schema, values: &Values, row: &MessageR
     }
 }
 
-/// The bytes of what a reply carries.
+/// Returns the bytes of what a reply carries.
 fn reply_size(layout: Layout, schema: &Schema, values: &Values, row: &MessageRow) -> usize
     ensures { result ≡ min (size.reply_size layout schema.now values.now row.now) size.greatest_size }
 {
@@ -150,8 +151,8 @@ fn reply_size(layout: Layout, schema: &Schema, values: &Values, row: &MessageRow
     }
 }
 
-/// How many bytes what a message carries takes, by the row of its number, or the greatest `usize`
-/// where it takes more. Values of a message of which there is no row take none. Takes no memory.
+/// Returns the number of bytes of what a message carries, by the row of its number, or the greatest `usize`
+/// if there are more. Values of a message without a row take no bytes. Takes no memory.
 pub fn body_size(schema: &Schema, layout: Layout, row: Option<&MessageRow>, body: &Body) -> usize
     ensures { result ≡ min (size.body_size layout schema.now (option_map (λ r. r.now) row.entry) body.now) size.greatest_size }
 {
@@ -163,8 +164,8 @@ pub fn body_size(schema: &Schema, layout: Layout, row: Option<&MessageRow>, body
     }
 }
 
-/// How many bytes the payload of a message takes, or the greatest `usize` where it takes more. Takes
-/// no memory.
+/// Returns the number of bytes of a message's payload, or the greatest `usize` if there are more. Takes no
+/// memory.
 pub fn payload_size(schema: &Schema, layout: Layout, message: &Message) -> usize
     requires { IsSound schema.now }
     ensures { result ≡ min (size.payload_size layout schema.now message.now) size.greatest_size }

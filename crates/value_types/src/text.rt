@@ -1,3 +1,4 @@
+//! The text of values, as scripts and transcripts write them.
 ghost use Rattle.std.specs.Prelude.{◌≡◌, ◌<◌, ◌++◌, OnOk, codes};
 ghost use Rattle.std.specs.Fmt.{decimal};
 ghost use Rattle.std.specs.List.{flat_map};
@@ -8,7 +9,7 @@ use crate::shapes::{builtin_of, component_of, element_of, fields_of, held_by};
 use ipdl_base::{Builtin, ParamRow, Schema, Shape, Value, Values};
 use std::alloc::AllocError;
 
-/// A hexadecimal digit in lower case.
+/// Returns a hexadecimal digit in lower case.
 fn hex_digit(n: u8) -> u8
     requires { n < 16 }
     ensures { result ≡ text.hex_digit n }
@@ -16,14 +17,14 @@ fn hex_digit(n: u8) -> u8
     if n < 10 { b'0' + n } else { 87 + n }
 }
 
-/// Appends a byte by its two digits.
+/// Appends the two digits of a byte.
 fn push_hex_byte(byte: u8, out: &mut Vec<u8>) -> Result<(), AllocError>
     ensures { OnOk result (out.new.items ≡ out.old.items ++ text.hex_byte byte) }
 {
     out.extend_from_slice(&[hex_digit(byte / 16), hex_digit(byte % 16)])
 }
 
-/// Appends the last digits of a number, so many, the highest first.
+/// Appends the last `count` hexadecimal digits of a number, the highest first.
 fn push_hex_digits(count: u32, n: u64, out: &mut Vec<u8>) -> Result<(), AllocError>
     ensures { OnOk result (out.new.items ≡ out.old.items ++ text.hex_digits count n) }
 {
@@ -34,7 +35,7 @@ fn push_hex_digits(count: u32, n: u64, out: &mut Vec<u8>) -> Result<(), AllocErr
     out.extend_from_slice(&[hex_digit((n % 16) as u8)])
 }
 
-/// Appends a byte of a text between quotes.
+/// Appends a byte as it is written between quotes.
 fn push_escaped(byte: u8, out: &mut Vec<u8>) -> Result<(), AllocError>
     ensures { OnOk result (out.new.items ≡ out.old.items ++ text.escaped byte) }
 {
@@ -55,7 +56,7 @@ fn push_escaped(byte: u8, out: &mut Vec<u8>) -> Result<(), AllocError>
     }
 }
 
-/// Appends the bytes of a text, each as it stands between quotes.
+/// Appends the bytes of a text as they are written between quotes.
 fn push_all_escaped(bytes: &[u8], out: &mut Vec<u8>) -> Result<(), AllocError>
     ensures { OnOk result (out.new.items ≡ out.old.items ++ flat_map text.escaped bytes.now) }
 {
@@ -65,7 +66,7 @@ fn push_all_escaped(bytes: &[u8], out: &mut Vec<u8>) -> Result<(), AllocError>
     Ok(())
 }
 
-/// Appends bytes, each by its two digits.
+/// Appends the two digits of each byte.
 fn push_all_hex(bytes: &[u8], out: &mut Vec<u8>) -> Result<(), AllocError>
     ensures { OnOk result (out.new.items ≡ out.old.items ++ flat_map text.hex_byte bytes.now) }
 {
@@ -84,7 +85,7 @@ fn push_quoted(bytes: &[u8], out: &mut Vec<u8>) -> Result<(), AllocError>
     out.extend_from_slice(b"\"")
 }
 
-/// Appends bytes.
+/// Appends bytes as hexadecimal digits between quotes.
 fn push_bytes(bytes: &[u8], out: &mut Vec<u8>) -> Result<(), AllocError>
     ensures { OnOk result (out.new.items ≡ out.old.items ++ text.bytes_text bytes.now) }
 {
@@ -93,7 +94,7 @@ fn push_bytes(bytes: &[u8], out: &mut Vec<u8>) -> Result<(), AllocError>
     out.extend_from_slice(b"\"")
 }
 
-/// Appends the bits of a float or a double.
+/// Appends the bits of a float or a double as hexadecimal digits between quotes.
 fn push_bits(shape: &Shape, bits: u64, out: &mut Vec<u8>) -> Result<(), AllocError>
     ensures { OnOk result (out.new.items ≡ out.old.items ++ text.bits_text shape.now bits) }
 {
@@ -176,8 +177,8 @@ fn push_text(
     }
 }
 
-/// Appends values of one type, the first behind the given bytes and each other behind a comma and a
-/// blank.
+/// Appends values of one type: the given bytes before the first, and a comma and a blank before each other
+/// one.
 #[cycle(text)]
 fn push_elements(
     values: &Values,
@@ -219,7 +220,8 @@ fn push_parts(
     }
 }
 
-/// Appends the text of a value of a type. At an error a part of it may be appended.
+/// Appends the text of a value of a type. Fails only if memory runs out; part of the text may then be
+/// appended.
 pub fn push_value(
     schema: &Schema,
     shape: &Shape,
@@ -231,8 +233,8 @@ pub fn push_value(
     push_text(value, schema, shape, out)
 }
 
-/// Appends the texts of the values of parameters, with a comma and a blank between each two. At an
-/// error a part of it may be appended.
+/// Appends the texts of the values of parameters, with a comma and a blank between them. Fails only if memory
+/// runs out; part of the text may then be appended.
 pub fn push_values(
     schema: &Schema,
     params: &[ParamRow],

@@ -1,4 +1,4 @@
--- What is taken under a call without an answer interrupts it as the schema allows.
+-- What is taken under an unanswered call interrupts it as the schema allows.
 use Rattle.std.proofs.Common.{◌≡◌, ◌==◌, ℕ, ℤ, pos, Bool, true, false, ◌&&◌, ◌||◌, cond, nat_lt, List, [], ◌∷◌, map, Option, Some, None, unwrap_or, refl, sym, ap, subst, ◌∙◌}
 use Rattle.std.specs.List.{AllByRecursion}
 use Rattle.std.proofs.lemmas.Bool.{eqb-true}
@@ -26,13 +26,13 @@ use Rattle.nesting_core.specs.Frames.{head_of}
 use Rattle.nesting_core.specs.Top.{top_of}
 use Rattle.pending_queue.specs.declared.item.Item.{Item}
 use Rattle.pending_queue.specs.declared.item.Item.TheVariants as item
-use Rattle.pending_queue.specs.Holding.{arrival_of_body, is_free}
+use Rattle.pending_queue.specs.DeferralContext.{arrival_of_body, is_free}
 use Rattle.history_reading.specs.declared.parts.CallFrame.{CallFrame}
 use Rattle.history_reading.specs.declared.parts.CallFrame.TheVariants as frame
 use Rattle.history_reading.specs.Reading.{Reading, read, end_reading_of}
 use Rattle.channel_model.specs.Ends.{End, World, StackEntry, end_of, link_to, opening}
-use Rattle.channel_model.specs.Numbers as numbers
-use Rattle.channel_model.specs.Numbers.{other, is_sync_row, request_row}
+use Rattle.ipdl_base.specs.Sides.{other, sends}
+use Rattle.channel_model.specs.Numbers.{is_sync_row, request_row}
 use Rattle.channel_model.specs.Outputs.{line_at}
 use Rattle.channel_model.specs.Runs.{run, history_of}
 use Rattle.channel_model.specs.Sends.{frames_of}
@@ -46,7 +46,6 @@ use Rattle.channel_laws.proofs.Readable.{reading-is}
 use Rattle.channel_laws.proofs.Rows.{sound_schemas_have_sound_rows}
 use Rattle.channel_laws.proofs.Takes.{found-passes}
 use Rattle.channel_laws.proofs.Tests.{not-false}
-use Rattle.wait_report.specs.Pairs as pairs
 use Rattle.wait_report.specs.Pairs.{may_wait, may_interrupt, IsSendableOne, IsInterruption, IsReport}
 use Rattle.wait_laws.specs.Interruptions.{awaits_on_top, OnlyReportedInterrupt, ReportsAreWhole}
 use Rattle.wait_laws.specs.SendableWorlds.{IsSentBy, BodyIsSendable, BodyArrives, FrameGoes, EntryIsSendable, IsSendableEnd, IsSendableWorld}
@@ -60,17 +59,9 @@ use Rattle.wait_laws.proofs.TakeLines.{TakesRequest, TakeStep, step-takes}
 both : (a b : Bool) → a ≡ true → b ≡ true → a && b ≡ true
 both a b e f = ap (λ (x : Bool). x && b) e ∙ f
 
-same-way : (side : Side) (d : Direction) → pairs.sends side d ≡ numbers.sends side d
-same-way Parent direction.Parent = refl
-same-way Parent direction.Child = refl
-same-way Parent direction.Both = refl
-same-way Child direction.Parent = refl
-same-way Child direction.Child = refl
-same-way Child direction.Both = refl
-
--- the parent sends nothing that goes to it
-toward-parent : {A : Type 0} (d : Direction) → d ≡ direction.Parent → numbers.sends Parent d ≡ true → A
-toward-parent d e way = let x : true ≡ false = sym way ∙ ap (numbers.sends Parent) e in cc
+-- the parent sends no message toward itself
+toward-parent : {A : Type 0} (d : Direction) → d ≡ direction.Parent → sends Parent d ≡ true → A
+toward-parent d e way = let x : true ≡ false = sym way ∙ ap (sends Parent) e in cc
 
 -- what a parent that waits at level inside_sync does not defer
 parent-takes : (l : Level) (s : Semantics) (inner : Option ℤ) (t : ℤ) → defers_request Parent InsideSync inner (is_sync s) l t ≡ false → rank l == 2 || (is_sync s && rank l == 1) ≡ true
@@ -81,7 +72,7 @@ parent-takes InsideSync Async inner t e = cc
 parent-takes InsideSync Sync inner t e = refl
 
 -- what a child that waits does not defer of what the parent sends
-child-takes : (w l : Level) (s : Semantics) (d : Direction) (inner : Option ℤ) (t : ℤ) → (s ≡ Sync → l ≡ Not → d ≡ direction.Parent) → (l ≡ InsideCpow → d ≡ direction.Parent) → numbers.sends Parent d ≡ true
+child-takes : (w l : Level) (s : Semantics) (d : Direction) (inner : Option ℤ) (t : ℤ) → (s ≡ Sync → l ≡ Not → d ≡ direction.Parent) → (l ≡ InsideCpow → d ≡ direction.Parent) → sends Parent d ≡ true
     → defers_request Child w inner (is_sync s) l t ≡ false → (nat_lt (rank w) 2 ≡ true) × (is_sync s && rank l == 1 ≡ true)
 child-takes w InsideCpow s d inner t plain high way e = toward-parent d (high refl) way
 child-takes w Not Async d inner t plain high way e = cc
@@ -91,26 +82,26 @@ child-takes Not InsideSync Sync d inner t plain high way e = (refl, refl)
 child-takes InsideSync InsideSync Sync d inner t plain high way e = (refl, refl)
 child-takes InsideCpow InsideSync Sync d inner t plain high way e = cc
 
--- An end of a side waits for a message of one row and does not defer one of another row: so the table says.
-table : (schema : Schema) → IsSound schema → (side : Side) (wait row : MessageRow) (n k : ℕ) (inner : Option ℤ) (t : ℤ) → request_row schema n ≡ Some wait → request_row schema k ≡ Some row → numbers.sends side wait.direction ≡ true → is_sync_row wait ≡ true → numbers.sends (other side) row.direction ≡ true
+-- An end of a side waits for a message of one row and does not defer a message of another row, as the table has it.
+table : (schema : Schema) → IsSound schema → (side : Side) (wait row : MessageRow) (n k : ℕ) (inner : Option ℤ) (t : ℤ) → request_row schema n ≡ Some wait → request_row schema k ≡ Some row → sends side wait.direction ≡ true → is_sync_row wait ≡ true → sends (other side) row.direction ≡ true
     → defers_request side wait.level inner (is_sync_row row) row.level t ≡ false → (may_wait side wait ≡ true) × (may_interrupt side row ≡ true)
 table schema sound Parent wait row n k inner t found is way sync theirs free =
     let level : wait.level ≡ InsideSync = (sound_schemas_have_sound_rows schema sound n wait found).of_parent sync way in
     let here : defers_request Parent InsideSync inner (is_sync_row row) row.level t ≡ false = subst (λ (l : Level). defers_request Parent l inner (is_sync_row row) row.level t ≡ false) level free in (
-      both (pairs.sends Parent wait.direction) (is_sync wait.semantics) (same-way Parent wait.direction ∙ way) sync,
-      both (pairs.sends Child row.direction) (rank row.level == 2 || (is_sync row.semantics && rank row.level == 1)) (same-way Child row.direction ∙ theirs) (parent-takes row.level row.semantics inner t here),
+      both (sends Parent wait.direction) (is_sync wait.semantics) way sync,
+      both (sends Child row.direction) (rank row.level == 2 || (is_sync row.semantics && rank row.level == 1)) theirs (parent-takes row.level row.semantics inner t here),
     )
 table schema sound Child wait row n k inner t found is way sync theirs free =
     let number = request-number schema k row is in
     let at : IsAt schema k row = row-at schema sound k row number.1 number.0 in
     let takes = child-takes wait.level row.level row.semantics row.direction inner t at.sound.plain_sync at.sound.inside_cpow theirs free in (
-      both (pairs.sends Child wait.direction) (is_sync wait.semantics && nat_lt (rank wait.level) 2) (same-way Child wait.direction ∙ way) (both (is_sync wait.semantics) (nat_lt (rank wait.level) 2) sync takes.0),
-      both (pairs.sends Parent row.direction) (is_sync row.semantics && rank row.level == 1) (same-way Parent row.direction ∙ theirs) takes.1,
+      both (sends Child wait.direction) (is_sync wait.semantics && nat_lt (rank wait.level) 2) way (both (is_sync wait.semantics) (nat_lt (rank wait.level) 2) sync takes.0),
+      both (sends Parent row.direction) (is_sync row.semantics && rank row.level == 1) theirs takes.1,
     )
 
 -- Waits
 
--- A call of a message without an answer is on top of an end's stack.
+-- An unanswered call of a message is on top of an end's stack.
 record Awaits (e : End) (number : ℕ) : Type 0 where
   entry : StackEntry
   below : List StackEntry
@@ -132,7 +123,7 @@ top-alone (frame.Dispatch d) xs number h = cc
 top-alone (frame.Unanswered c) xs number h = h
 top-alone (frame.Answered c) xs number h = cc
 
--- what lines say of the top of a stack is so at the end
+-- what lines show of the top of a stack is true of the end
 awaits-read : (e : End) (own : List CallFrame) (number : ℕ) → map placeless own ≡ map shown_entry e.stack → awaits_on_top own number ≡ true → Awaits e number
 awaits-read e [] number is h = cc
 awaits-read e (x ∷ xs) number is h = by e.stack refl is
@@ -152,11 +143,11 @@ side-sendable schema top Parent w h = h.parent
 side-sendable schema top Child w h = h.child
 
 -- the item that is taken next is not deferred
-taken-free : (e : End) (x : Item) → take.taken_next e ≡ Some x → is_free (take.holding_of e) x ≡ true
+taken-free : (e : End) (x : Item) → take.taken_next e ≡ Some x → is_free (take.deferral_context_of e) x ≡ true
 taken-free e x next = by (take.takes_in_state e.state && take.takes_under (top_of (frames_of e))) next
   where
-    by : (b : Bool) → cond b (take.first_free e) None ≡ Some x → is_free (take.holding_of e) x ≡ true
-    by true is = found-passes (is_free (take.holding_of e)) e.arrived x is
+    by : (b : Bool) → cond b (take.first_free e) None ≡ Some x → is_free (take.deferral_context_of e) x ≡ true
+    by true is = found-passes (is_free (take.deferral_context_of e)) e.arrived x is
     by false is = cc
 
 module _ (schema : Schema) (sound : IsSound schema) (top : ℕ) (side : Side) (e : End) (k : IsSendableEnd schema top side e) (waits takes : ℕ) (a : Awaits e waits) (t : TakesRequest e takes) where
@@ -210,7 +201,7 @@ module _ (schema : Schema) (sound : IsSound schema) (top : ℕ) (side : Side) (e
 pub only_reported_interrupt : OnlyReportedInterrupt
 only_reported_interrupt schema sound top moves pair i =
     let line : Line = line_at pair.side (what.Take i.seq i.route pair.takes i.values) in
-    let m : IsMoment schema (opening top) i.before line = moment-of schema moves (opening top) i.before i.behind line refl i.whole in
+    let m : IsMoment schema (opening top) i.before line = moment-of schema moves (opening top) i.before i.following line refl i.whole in
     let w : World = (run schema m.front (opening top)).world in
     let world : IsSendableWorld schema top w = sendable_in_every_run schema top m.front in
     let e : End = end_of m.move.side w in

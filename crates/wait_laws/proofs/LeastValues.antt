@@ -19,7 +19,7 @@ use Rattle.value_types.specs.HasType.{IsInRange, IsWithinBits, HasType, HaveType
 use Rattle.value_types.specs.Shapes.{range_of, float_bits, builtin_of, is_byte_builtin, is_bytes, fields_in, component_in}
 use Rattle.value_types.specs.Sizes.{padded, number_size, bytes_size, value_size, values_size}
 use Rattle.channel_model.specs.ValueActors.{ActorValue, actor_at, actors_in, actors_in_parts}
-use Rattle.channel_model.proofs.Known.{all-before, all-behind}
+use Rattle.channel_model.proofs.Known.{all-before, all-following}
 use Rattle.wait_report.specs.Sendable as sendable
 use Rattle.wait_report.specs.Sendable.{IsBuildable, HasValueWithin, using_type, null, actor, array, maybe, unique, struct, union, HaveValuesWithin, nothing, first}
 
@@ -199,5 +199,5 @@ module _ (schema : Schema) (top : ℕ) where
     values-fit (field ∷ fields) (First' at v more vs) h a =
         first (value_size NEW schema field.shape v) (values_size NEW schema fields vs)
         (value-fits field.shape v h.0 (all-before MayStand (actors_in schema field.shape v) (actors_in_parts schema fields vs) a))
-        (values-fit fields vs h.1 (all-behind MayStand (actors_in schema field.shape v) (actors_in_parts schema fields vs) a))
+        (values-fit fields vs h.1 (all-following MayStand (actors_in schema field.shape v) (actors_in_parts schema fields vs) a))
         (omega arith)

@@ -1,4 +1,4 @@
--- Each event line of a run begins the lines of one possible move, behind the lines of the moves before it.
+-- Each event line of a run begins the lines of one possible move, after the lines of the moves before it.
 use Rattle.std.proofs.Common.{◌≡◌, ◌⊎◌, inl, inr, true, false, List, [], ◌∷◌, ◌++◌, Option, Some, None, refl, sym, ap, subst, ◌∙◌}
 use Rattle.std.specs.List.{AllByRecursion}
 use Rattle.ipdl_base.specs.declared.kinds.Side.{Side}
@@ -12,7 +12,7 @@ use Rattle.channel_model.specs.Outputs.{Output}
 use Rattle.channel_model.specs.Runs.{output_of, passed_by, happens, run}
 use Rattle.channel_model.proofs.Events.{events_have_their_lines}
 
--- A line stands first among those of a move, which is possible behind other moves, whose lines are all before it.
+-- A line is the first of a move, which is possible after other moves, whose lines are all before it.
 pub record IsMoment (schema : Schema) (w : World) (before : List Line) (line : Line) : Type 0 where
   pub front : List Move
   pub move : Move
@@ -28,10 +28,10 @@ pub record InFirst (xs before : List Line) (line : Line) : Type 0 where
   pub rest : List Line
   pub whole : xs ≡ before ++ line ∷ rest
 
-pub record InSecond (xs ys before : List Line) (line : Line) (behind : List Line) : Type 0 where
+pub record InSecond (xs ys before : List Line) (line : Line) (following : List Line) : Type 0 where
   pub later : List Line
   pub before_is : before ≡ xs ++ later
-  pub whole : ys ≡ later ++ line ∷ behind
+  pub whole : ys ≡ later ++ line ∷ following
 
 head-is : (x y : Line) (xs ys : List Line) → x ∷ xs ≡ y ∷ ys → x ≡ y
 head-is x y xs ys e = cc
@@ -39,20 +39,20 @@ head-is x y xs ys e = cc
 tail-is : (x y : Line) (xs ys : List Line) → x ∷ xs ≡ y ∷ ys → xs ≡ ys
 tail-is x y xs ys e = cc
 
-none-there : {A : Type 0} (before behind : List Line) (line : Line) → [] ≡ before ++ line ∷ behind → A
-none-there [] behind line e = cc
-none-there (x ∷ xs) behind line e = cc
+none-there : {A : Type 0} (before following : List Line) (line : Line) → [] ≡ before ++ line ∷ following → A
+none-there [] following line e = cc
+none-there (x ∷ xs) following line e = cc
 
--- a line of two lists stands in one of them
-split : (xs ys before behind : List Line) (line : Line) → xs ++ ys ≡ before ++ line ∷ behind → InFirst xs before line ⊎ InSecond xs ys before line behind
-split [] ys before behind line e = inr (record { later = before; before_is = refl; whole = e })
-split (x ∷ xs) ys [] behind line e = inl (record { rest = xs; whole = ap (λ (l : Line). l ∷ xs) (head-is x line (xs ++ ys) behind e) })
-split (x ∷ xs) ys (b ∷ bs) behind line e = by (split xs ys bs behind line (tail-is x b (xs ++ ys) (bs ++ line ∷ behind) e))
+-- a line of two lists is in one of them
+split : (xs ys before following : List Line) (line : Line) → xs ++ ys ≡ before ++ line ∷ following → InFirst xs before line ⊎ InSecond xs ys before line following
+split [] ys before following line e = inr (record { later = before; before_is = refl; whole = e })
+split (x ∷ xs) ys [] following line e = inl (record { rest = xs; whole = ap (λ (l : Line). l ∷ xs) (head-is x line (xs ++ ys) following e) })
+split (x ∷ xs) ys (b ∷ bs) following line e = by (split xs ys bs following line (tail-is x b (xs ++ ys) (bs ++ line ∷ following) e))
   where
     same : x ≡ b
-    same = head-is x b (xs ++ ys) (bs ++ line ∷ behind) e
+    same = head-is x b (xs ++ ys) (bs ++ line ∷ following) e
 
-    by : InFirst xs bs line ⊎ InSecond xs ys bs line behind → InFirst (x ∷ xs) (b ∷ bs) line ⊎ InSecond (x ∷ xs) ys (b ∷ bs) line behind
+    by : InFirst xs bs line ⊎ InSecond xs ys bs line following → InFirst (x ∷ xs) (b ∷ bs) line ⊎ InSecond (x ∷ xs) ys (b ∷ bs) line following
     by (inl f) = inl (record { rest = f.rest; whole = ap (λ (l : Line). l ∷ xs) same ∙ ap (λ (ls : List Line). b ∷ ls) f.whole })
     by (inr s) = inr (record { later = s.later; before_is = ap (λ (l : Line). l ∷ bs) (sym same) ∙ ap (λ (ls : List Line). x ∷ ls) s.before_is; whole = s.whole })
 
@@ -78,13 +78,13 @@ module _ (schema : Schema) where
   first-moment move w None before line is step f = none-there before f.rest line f.whole
   first-moment move w (Some output) before line is step f = here move w output before line is step f
 
-  pub moment-of : (moves : List Move) (w : World) (before behind : List Line) (line : Line) → is_effect line.what ≡ false → (run schema moves w).lines ≡ before ++ line ∷ behind → IsMoment schema w before line
-  moment-of [] w before behind line is e = none-there before behind line e
-  moment-of (move ∷ moves) w before behind line is e =
-      by (split (happens schema w move).lines (run schema moves (happens schema w move).world).lines before behind line e) (λ (later : List Line). λ (whole : (run schema moves (happens schema w move).world).lines ≡ later ++ line ∷ behind). moment-of moves (happens schema w move).world later behind line is whole)
+  pub moment-of : (moves : List Move) (w : World) (before following : List Line) (line : Line) → is_effect line.what ≡ false → (run schema moves w).lines ≡ before ++ line ∷ following → IsMoment schema w before line
+  moment-of [] w before following line is e = none-there before following line e
+  moment-of (move ∷ moves) w before following line is e =
+      by (split (happens schema w move).lines (run schema moves (happens schema w move).world).lines before following line e) (λ (later : List Line). λ (whole : (run schema moves (happens schema w move).world).lines ≡ later ++ line ∷ following). moment-of moves (happens schema w move).world later following line is whole)
     where
-      by : InFirst (happens schema w move).lines before line ⊎ InSecond (happens schema w move).lines (run schema moves (happens schema w move).world).lines before line behind
-          → ((later : List Line) → (run schema moves (happens schema w move).world).lines ≡ later ++ line ∷ behind → IsMoment schema (happens schema w move).world later line) → IsMoment schema w before line
+      by : InFirst (happens schema w move).lines before line ⊎ InSecond (happens schema w move).lines (run schema moves (happens schema w move).world).lines before line following
+          → ((later : List Line) → (run schema moves (happens schema w move).world).lines ≡ later ++ line ∷ following → IsMoment schema (happens schema w move).world later line) → IsMoment schema w before line
       by (inl f) rec = first-moment move w (output_of schema w move) before line is refl f
       by (inr s) rec =
           let m : IsMoment schema (happens schema w move).world s.later line = rec s.later s.whole in

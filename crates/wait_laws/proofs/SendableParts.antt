@@ -34,16 +34,17 @@ use Rattle.nesting_core.specs.Top.{top_of}
 use Rattle.pending_queue.specs.declared.item.Item.{Item}
 use Rattle.pending_queue.specs.declared.item.Item.TheVariants as item
 use Rattle.pending_queue.specs.Compression.{staying}
-use Rattle.pending_queue.specs.Holding.{is_free, without_first}
+use Rattle.pending_queue.specs.DeferralContext.{is_free, without_first}
 use Rattle.channel_model.specs.Acts.{goodbye}
 use Rattle.channel_model.specs.Answers as answering
 use Rattle.channel_model.specs.Deliveries as delivery
 use Rattle.channel_model.specs.Ends.{End, Packet, message, mark, StackEntry}
 use Rattle.channel_model.specs.Events.{Answering, handled, kept}
-use Rattle.channel_model.specs.Numbers.{other, top_id, protocol_of, is_sync_row, request_row, is_constructor, sends}
+use Rattle.ipdl_base.specs.Sides.{other, top_id, sends}
+use Rattle.channel_model.specs.Numbers.{protocol_of, is_sync_row, request_row, is_constructor}
 use Rattle.channel_model.specs.Outputs.{is_open, AnsweredRequest, request_answered, resolver_answered, reply_to}
 use Rattle.channel_model.specs.Parts
-use Rattle.channel_model.specs.Parts.{FirstPart, LaterPart, LaterParts, OwnParts, DeliveryPart, behind_outbox, reply_packet, reply_packets, end_behind, left_end, outbox_after, request_packets, sent_end}
+use Rattle.channel_model.specs.Parts.{FirstPart, LaterPart, LaterParts, OwnParts, DeliveryPart, after_outbox, reply_packet, reply_packets, end_after, left_end, outbox_after, request_packets, sent_end}
 use Rattle.channel_model.specs.Phases.{Phase, manager_of, quiet}
 use Rattle.channel_model.specs.Sends as send
 use Rattle.channel_model.specs.States.{is_goodbye, is_farewell}
@@ -69,7 +70,7 @@ past-stack : (refused : Option SendRefusal) (rest : Option SendRefusal) → (if 
 past-stack None rest e = e
 past-stack (Some cause) rest e = cc
 
--- values that are not refused are not too many, and none of their actors is dead
+-- values that are not refused are not too large, and contain no dead actor
 not-refused : (large dead : Bool) → send.value_refusal large dead ≡ None → (large ≡ false) × (dead ≡ false)
 not-refused true dead e = cc
 not-refused false true e = cc
@@ -123,7 +124,7 @@ module _ (schema : Schema) (top : ℕ) (side : Side) where
         living = ok.1;
       }
 
-  -- what is not too large takes no more than a frame may
+  -- a message that is not too large takes at most the bytes that a frame may have
   no-more : (n m : ℕ) → nat_lt m n ≡ false → n ≤ m
   no-more n m e =
       let short : ¬ (m < n) = λ less. let both : true ≡ false = sym ((Decides-ltb m n).1 less) ∙ e in cc in
@@ -150,16 +151,16 @@ module _ (schema : Schema) (top : ℕ) (side : Side) where
   outbox-free : (e : End) → IsSendableEnd schema top side e → AllByRecursion (PacketIsSendable schema top side) (map message e.outbox)
   outbox-free e k = all-messages (PacketIsSendable schema top side) (MessageIsSendable schema top side) e.outbox (λ m h. h) k.outbox
 
-  behind-free : (e : End) (p : Packet) → IsSendableEnd schema top side e → PacketIsSendable schema top side p → AllByRecursion (PacketIsSendable schema top side) (behind_outbox e p)
-  behind-free e p k h = all-append (PacketIsSendable schema top side) (map message e.outbox) (p ∷ []) (outbox-free e k) (h, tt)
+  following-free : (e : End) (p : Packet) → IsSendableEnd schema top side e → PacketIsSendable schema top side p → AllByRecursion (PacketIsSendable schema top side) (after_outbox e p)
+  following-free e p k h = all-append (PacketIsSendable schema top side) (map message e.outbox) (p ∷ []) (outbox-free e k) (h, tt)
 
   replies-free : (b : Bool) (e : End) (q : AnsweredRequest) (a : Answer) → IsSendableEnd schema top side e → AllByRecursion (PacketIsSendable schema top side) (reply_packets b e q a)
-  replies-free true e q a k = behind-free e (reply_packet q a) k (reply-free q a)
+  replies-free true e q a k = following-free e (reply_packet q a) k (reply-free q a)
   replies-free false e q a k = tt
 
-  end-behind : (b : Bool) (e : End) → IsSendableEnd schema top side e → IsSendableEnd schema top side (end_behind b e)
-  end-behind true e k = record { side_is = k.side_is; actors = k.actors; entries = k.entries; arrived = k.arrived; outbox = tt }
-  end-behind false e k = k
+  end-following : (b : Bool) (e : End) → IsSendableEnd schema top side e → IsSendableEnd schema top side (end_after b e)
+  end-following true e k = record { side_is = k.side_is; actors = k.actors; entries = k.entries; arrived = k.arrived; outbox = tt }
+  end-following false e k = k
 
   -- Stacks
 
@@ -209,7 +210,7 @@ module _ (schema : Schema) (top : ℕ) (side : Side) where
   taken-item e x k next = by (take.takes_in_state e.state && take.takes_under (top_of (send.frames_of e))) next
     where
       by : (b : Bool) → cond b (take.first_free e) None ≡ Some x → ItemIsSendable schema top (other side) x
-      by true is = all-found (ItemIsSendable schema top (other side)) (is_free (take.holding_of e)) e.arrived x k.arrived is
+      by true is = all-found (ItemIsSendable schema top (other side)) (is_free (take.deferral_context_of e)) e.arrived x k.arrived is
       by false is = cc
 
   taken-request : (e : End) (m : Message) (sync : Bool) (level : Level) (vs : Values) → IsSendableEnd schema top side e → take.taken_next e ≡ Some (item.Message m sync level) → m.body ≡ Request vs → IsSentBy schema top (other side) m.number
@@ -220,11 +221,11 @@ module _ (schema : Schema) (top : ℕ) (side : Side) where
     side_is = k.side_is;
     actors = k.actors;
     entries = k.entries;
-    arrived = all-sublist (ItemIsSendable schema top (other side)) (without_first (is_free (take.holding_of e)) e.arrived) e.arrived (without_first-sublist (is_free (take.holding_of e)) e.arrived) k.arrived;
+    arrived = all-sublist (ItemIsSendable schema top (other side)) (without_first (is_free (take.deferral_context_of e)) e.arrived) e.arrived (without_first-sublist (is_free (take.deferral_context_of e)) e.arrived) k.arrived;
     outbox = k.outbox;
   }
 
-  -- an item of a row has what the row says
+  -- an item of a row has the sync and level of the row
   of-row : (m : Message) (row : MessageRow) (body : Body) → message_of schema m.number ≡ Some row → BodyArrives schema m (is_sync_row row) row.level body
   of-row m row (Request vs) found = λ r is. let same : row ≡ r = same_Some row r (sym found ∙ is) in (ap is_sync_row same, ap (λ (x : MessageRow). x.level) same)
   of-row m row (Reply vs) found = tt
@@ -261,7 +262,7 @@ module _ (schema : Schema) (top : ℕ) (side : Side) where
 
   -- Every part
 
-  -- Behind a part the end is so, what it has sent is, and what it may still build can be built.
+  -- After a part the end and its packets are sendable, and what it may still build can be built.
   pub record Stays (f : End) (ps : List Packet) (q : Phase) : Type 0 where
     pub keeps : IsSendableEnd schema top side f
     pub packets : AllByRecursion (PacketIsSendable schema top side) ps
@@ -306,16 +307,16 @@ module _ (schema : Schema) (top : ℕ) (side : Side) where
 
       packets-all : (lazy : Bool) → AllByRecursion (PacketIsSendable schema top side) (request_packets lazy e (send.request_of e row route vs))
       packets-all true = tt
-      packets-all false = behind-free e (message (send.request_of e row route vs)) k one
+      packets-all false = following-free e (message (send.request_of e row route vs)) k one
   first-stays {e} (Parts.answers by vs r row found may accepted used) k =
-      quiet-stays (record (answering.without_resolver by e) { outbox = [] }) (behind_outbox e (message (reply_to (resolver_answered r) (answering.answer_body vs)))) (without-all by e k)
-      (behind-free e (message (reply_to (resolver_answered r) (answering.answer_body vs))) k (answer-free (resolver_answered r) vs))
+      quiet-stays (record (answering.without_resolver by e) { outbox = [] }) (after_outbox e (message (reply_to (resolver_answered r) (answering.answer_body vs)))) (without-all by e k)
+      (following-free e (message (reply_to (resolver_answered r) (answering.answer_body vs))) k (answer-free (resolver_answered r) vs))
   first-stays {e} (Parts.closes o waits) k = record {
     keeps = record { side_is = k.side_is; actors = k.actors; entries = k.entries; arrived = tt; outbox = tt };
-    packets = behind-free e (message goodbye) k tt;
+    packets = following-free e (message goodbye) k tt;
     fresh = λ protocol e. cc;
   }
-  first-stays {e} (Parts.dies o) k = record { keeps = record { side_is = k.side_is; actors = k.actors; entries = tt; arrived = tt; outbox = tt }; packets = behind-free e mark k tt; fresh = none-new }
+  first-stays {e} (Parts.dies o) k = record { keeps = record { side_is = k.side_is; actors = k.actors; entries = tt; arrived = tt; outbox = tt }; packets = following-free e mark k tt; fresh = none-new }
   first-stays {e} (Parts.dies_silent o alive) k = record { keeps = record { side_is = k.side_is; actors = k.actors; entries = tt; arrived = tt; outbox = k.outbox }; packets = tt; fresh = none-new }
   first-stays {e} (Parts.takes m sync level row vs next body found stays) k =
       let one : IsSentBy schema top (other side) m.number = taken-request e m sync level vs k next body in
@@ -329,7 +330,7 @@ module _ (schema : Schema) (top : ℕ) (side : Side) where
         fresh = λ protocol kind. constructed row sendable kind;
       }
   first-stays {e} (Parts.drops m sync level row vs id replies next body found gone is) k =
-      quiet-stays (end_behind replies (left_end e)) (reply_packets replies e (request_answered m) (answer.Fault ActorDestroyed)) (end-behind replies (left_end e) (left-all e k)) (replies-free replies e (request_answered m) (answer.Fault ActorDestroyed) k)
+      quiet-stays (end_after replies (left_end e)) (reply_packets replies e (request_answered m) (answer.Fault ActorDestroyed)) (end-following replies (left_end e) (left-all e k)) (replies-free replies e (request_answered m) (answer.Fault ActorDestroyed) k)
   first-stays {e} (Parts.drops_unknown m sync level vs next body found) k = quiet-stays (left_end e) [] (left-all e k) tt
   first-stays {e} (Parts.takes_reply m sync level a next body settles) k = quiet-stays (left_end e) [] (left-all e k) tt
   first-stays {e} (Parts.settles m sync level row a next body found is) k =
@@ -339,8 +340,8 @@ module _ (schema : Schema) (top : ℕ) (side : Side) where
   first-stays {e} (Parts.returns entry row vs told lost is t l) k =
       let popped : IsSendableEnd schema top side (record e { stack = drop 1 e.stack }) = record { side_is = k.side_is; actors = k.actors; entries = all-drop (EntryIsSendable schema top side) e.stack k.entries; arrived = k.arrived; outbox = k.outbox } in
       record {
-        keeps = end-behind lost (end_behind told (record e { stack = drop 1 e.stack })) (end-behind told (record e { stack = drop 1 e.stack }) popped);
-        packets = all-append (PacketIsSendable schema top side) (reply_packets told e _ _) (reply_packets lost (end_behind told e) _ _) (replies-free told e _ _ k) (replies-free lost (end_behind told e) _ _ (end-behind told e k));
+        keeps = end-following lost (end_after told (record e { stack = drop 1 e.stack })) (end-following told (record e { stack = drop 1 e.stack }) popped);
+        packets = all-append (PacketIsSendable schema top side) (reply_packets told e _ _) (reply_packets lost (end_after told e) _ _) (replies-free told e _ _ k) (replies-free lost (end_after told e) _ _ (end-following told e k));
         fresh = λ protocol e. cc;
       }
   first-stays {e} (Parts.resumes wait row on_top found) k = quiet-stays (record e { stack = drop 1 e.stack }) [] (record { side_is = k.side_is; actors = k.actors; entries = all-drop (EntryIsSendable schema top side) e.stack k.entries; arrived = k.arrived; outbox = k.outbox }) tt
@@ -349,7 +350,7 @@ module _ (schema : Schema) (top : ℕ) (side : Side) where
   later-stays {e} (Parts.unnames name may silent) n k = record { keeps = record { side_is = k.side_is; actors = k.actors; entries = k.entries; arrived = k.arrived; outbox = k.outbox }; packets = tt; fresh = n }
   later-stays {e} (Parts.lets_go name r may is o) n k = record {
     keeps = record { side_is = k.side_is; actors = k.actors; entries = k.entries; arrived = k.arrived; outbox = tt };
-    packets = behind-free e (reply_packet (resolver_answered r) (answer.Fault ResolverDestroyed)) k tt;
+    packets = following-free e (reply_packet (resolver_answered r) (answer.Fault ResolverDestroyed)) k tt;
     fresh = n;
   }
   later-stays {e} (Parts.names more a) n k = record { keeps = record { side_is = k.side_is; actors = k.actors; entries = k.entries; arrived = k.arrived; outbox = k.outbox }; packets = tt; fresh = n }
@@ -387,7 +388,7 @@ module _ (schema : Schema) (top : ℕ) (side : Side) where
   pub delivery-stays : {packet : Packet} {q : Phase} {e f : End} {ws : List What} {ps : List Packet} → DeliveryPart schema packet e ws ps f q → PacketIsSendable schema top (other side) packet → IsSendableEnd schema top side e → Stays f ps q
   delivery-stays {e} (Parts.gets_request m row vs body found none) h k = quiet-stays (delivery.counted row (delivery.item_of row m) e) [] (counted-all e row m found h k) tt
   delivery-stays {e} (Parts.replaces m row vs old sync level replies body found rep is) h k =
-      quiet-stays (end_behind replies (delivery.counted row (delivery.item_of row m) e)) (reply_packets replies e (request_answered old) (answer.Fault ResolverDestroyed)) (end-behind replies (delivery.counted row (delivery.item_of row m) e) (counted-all e row m found h k))
+      quiet-stays (end_after replies (delivery.counted row (delivery.item_of row m) e)) (reply_packets replies e (request_answered old) (answer.Fault ResolverDestroyed)) (end-following replies (delivery.counted row (delivery.item_of row m) e) (counted-all e row m found h k))
       (replies-free replies e (request_answered old) (answer.Fault ResolverDestroyed) k)
   delivery-stays {e} (Parts.gets_answer m row a body found sync) h k = quiet-stays (delivery.answers_wait a e) [] (record { side_is = k.side_is; actors = k.actors; entries = answered-all a e.stack k.entries; arrived = k.arrived; outbox = k.outbox }) tt
   delivery-stays {e} (Parts.gets_reply m row a body found sync) h k =

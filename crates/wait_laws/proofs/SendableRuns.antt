@@ -1,4 +1,4 @@
--- In every run actors that live can be built and requests can be sent.
+-- In every run the actors that live can be built and the requests can be sent.
 use Rattle.std.proofs.Common.{◌≡◌, ℕ, List, [], ◌∷◌, ◌++◌, drop, Option, Some, None, refl, subst}
 use Rattle.std.specs.List.{AllByRecursion}
 use Rattle.ipdl_base.specs.declared.kinds.Side.{Side}
@@ -8,7 +8,7 @@ use Rattle.ipdl_base.specs.declared.schema.Schema.{Schema}
 use Rattle.channel_model.specs.Ends.{End, World, Packet, opening, opening_end}
 use Rattle.channel_model.specs.Events.{Event, Move}
 use Rattle.channel_model.specs.Events as event
-use Rattle.channel_model.specs.Numbers.{other}
+use Rattle.ipdl_base.specs.Sides.{other}
 use Rattle.channel_model.specs.Outputs.{Output}
 use Rattle.channel_model.specs.Parts.{OwnParts}
 use Rattle.channel_model.specs.Phases.{Phase}
@@ -22,7 +22,7 @@ use Rattle.wait_laws.specs.SendableWorlds.{PacketIsSendable, IsSendableEnd, IsSe
 use Rattle.wait_laws.proofs.SendableParts.{Stays, own-stays, delivery-stays}
 
 module _ (schema : Schema) (top : ℕ) where
-  -- An end behind a step, the link toward it and the link away from it.
+  -- An end after a step, the link toward it and the link away from it.
   record Moved (side : Side) (next : End) (to_me to_them : List Packet) : Type 0 where
     keeps : IsSendableEnd schema top side next
     comes : AllByRecursion (PacketIsSendable schema top (other side)) to_me
@@ -50,18 +50,18 @@ module _ (schema : Schema) (top : ℕ) where
   moved side event.resume mine to_me to_them o k comes goes s = acts side mine o.end to_me to_them o.packets s.whats s.phase s.parts k comes goes
   moved side event.flush mine to_me to_them o k comes goes s = acts side mine o.end to_me to_them o.packets s.whats s.phase s.parts k comes goes
 
-  behind : (side : Side) (ev : Event) (w : World) (found : Option Output) → output_of schema w (record { side = side; event = ev }) ≡ found → IsSendableWorld schema top w → IsSendableWorld schema top (passed_by found (record { side = side; event = ev }) w).world
-  behind side ev w None is h = h
-  behind Parent ev w (Some o) is h =
+  following : (side : Side) (ev : Event) (w : World) (found : Option Output) → output_of schema w (record { side = side; event = ev }) ≡ found → IsSendableWorld schema top w → IsSendableWorld schema top (passed_by found (record { side = side; event = ev }) w).world
+  following side ev w None is h = h
+  following Parent ev w (Some o) is h =
       let m : Moved Parent o.end (after_event ev w.to_parent) (w.to_child ++ o.packets) = moved Parent ev w.parent w.to_parent w.to_child o h.parent h.to_parent h.to_child (steps_are_made_of_parts schema w.parent w.to_parent ev o is) in
       record { parent = m.keeps; child = h.child; to_parent = m.comes; to_child = m.goes }
-  behind Child ev w (Some o) is h =
+  following Child ev w (Some o) is h =
       let m : Moved Child o.end (after_event ev w.to_child) (w.to_parent ++ o.packets) = moved Child ev w.child w.to_child w.to_parent o h.child h.to_child h.to_parent (steps_are_made_of_parts schema w.child w.to_child ev o is) in
       record { parent = h.parent; child = m.keeps; to_parent = m.goes; to_child = m.comes }
 
   runs-sendable : (moves : List Move) (w : World) → IsSendableWorld schema top w → IsSendableWorld schema top (run schema moves w).world
   runs-sendable [] w h = h
-  runs-sendable (move ∷ moves) w h = runs-sendable moves (happens schema w move).world (behind move.side move.event w (output_of schema w move) refl h)
+  runs-sendable (move ∷ moves) w h = runs-sendable moves (happens schema w move).world (following move.side move.event w (output_of schema w move) refl h)
 
   first-sendable : (side : Side) → IsSendableEnd schema top side (opening_end top side)
   first-sendable side = record { side_is = refl; actors = (is_top, tt); entries = tt; arrived = tt; outbox = tt }

@@ -1,4 +1,4 @@
--- A line that says that a request is taken comes from a take.
+-- A line of a take comes from a take.
 use Rattle.std.proofs.Common.{◌≡◌, ℕ, ℤ, Bool, true, false, cond, List, [], ◌∷◌, ◌++◌, map, Option, Some, None, refl, sym, ap, ◌∙◌}
 use Rattle.ipdl_base.specs.declared.kinds.Level.{Level}
 use Rattle.ipdl_base.specs.declared.kinds.Side.{Side}
@@ -29,7 +29,7 @@ use Rattle.channel_model.specs.StepLaws.{IsStepOfParts}
 use Rattle.channel_model.specs.Takes as take
 use Rattle.channel_model.specs.ValueActors.{received}
 
--- A request of a message is what an end takes next.
+-- The next item that an end takes is a request of a message.
 pub record TakesRequest (e : End) (number : ℕ) : Type 0 where
   pub m : Message
   pub sync : Bool
@@ -39,7 +39,7 @@ pub record TakesRequest (e : End) (number : ℕ) : Type 0 where
   pub body : m.body ≡ Request vs
   pub number_is : m.number ≡ number
 
--- the message that a line says is taken
+-- the message that is taken, by its line
 abbrev pub taken_number : What → Option ℕ
 taken_number (what.Take seq route number values) = Some number
 taken_number _ = None
@@ -48,7 +48,7 @@ abbrev pub first_taken : List What → Option ℕ
 first_taken [] = None
 first_taken (w ∷ ws) = taken_number w
 
--- Lines that say nothing of it
+-- Lines that show no take
 
 refusal-not : (schema : Schema) (w : What) → IsRefusal schema w → taken_number w ≡ None
 refusal-not schema (what.RefusedSend cause number) is = refl
@@ -125,7 +125,7 @@ delivery-not (Parts.passes_by m other found) = unknown-not m.seq m.body
 
 -- Steps
 
--- the first line of some is on their side, and says that a message is taken where that does
+-- the first line is on the side of all, and shows that a message is taken if that line does
 pub record FirstLine (side : Side) (whats : List What) (line : Line) : Type 0 where
   pub side_is : line.side ≡ side
   pub taken : first_taken whats ≡ taken_number line.what
@@ -136,7 +136,8 @@ first-line side (w ∷ ws) line rest e =
     let same : line ≡ line_at side w = cc in
     record { side_is = ap (λ (l : Line). l.side) same; taken = ap (λ (l : Line). taken_number l.what) (sym same) }
 
--- A step whose first line says that a request is taken: the line is of the end's side, and the end takes one of that message.
+-- A step whose first line shows that a request is taken: the line is of the end's side, and the end takes a request
+-- of that message.
 pub record TakeStep (e : End) (line : Line) (number : ℕ) : Type 0 where
   pub side_is : line.side ≡ e.side
   pub takes : TakesRequest e number

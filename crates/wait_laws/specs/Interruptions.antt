@@ -16,29 +16,29 @@ use Rattle.channel_model.specs.Runs.{history_of}
 use Rattle.wait_report.specs.declared.pair.Pair.{Pair}
 use Rattle.wait_report.specs.Pairs.{IsInterruption, IsReport}
 
--- whether a call of a message without an answer is on top
+-- whether an unanswered call of a message is on top
 abbrev pub awaits_on_top : List CallFrame → ℕ → Bool
 awaits_on_top (frame.Unanswered call ∷ below) number = call.number == number
 awaits_on_top _ number = false
 
--- A request of one message interrupts the wait for the reply to another: at some moment of a history the end of a side has a
--- call of the latter without an answer on top, and the next line is that it takes the former.
+-- A request of one message interrupts the wait for the reply to another: at some moment of a history the end of a
+-- side has an unanswered call of the latter on top, and on the next line it takes the former.
 pub record Interrupts (schema : Schema) (lines : List Line) (side : Side) (waits takes : ℕ) : Type 0 where
   pub before : List Line
-  pub behind : List Line
+  pub following : List Line
   pub seq : ℤ
   pub route : ℤ
   pub values : Values
-  pub whole : lines ≡ before ++ line_at side (what.Take seq route takes values) ∷ behind
+  pub whole : lines ≡ before ++ line_at side (what.Take seq route takes values) ∷ following
   pub awaits : awaits_on_top (end_reading_of side (read schema before)).stack waits ≡ true
 
--- In every legal history only interruptions of the report interrupt a wait.
+-- In every legal history only interruptions that the schema allows interrupt a wait.
 abbrev pub OnlyReportedInterrupt : Type 0
 OnlyReportedInterrupt =
     (schema : Schema) → IsSound schema → (top : ℕ) (moves : List Move) (pair : Pair) → Interrupts schema (history_of schema top moves) pair.side pair.waits pair.takes
     → IsInterruption schema top pair
 
--- So each of them stands in the report.
+-- So each of them is in the report.
 abbrev pub ReportsAreWhole : Type 0
 ReportsAreWhole =
     (schema : Schema) → IsSound schema → (top : ℕ) (moves : List Move) (pairs : List Pair) (pair : Pair) → IsReport schema top pairs → Interrupts schema (history_of schema top moves) pair.side pair.waits pair.takes

@@ -1,4 +1,4 @@
--- Worlds in which all actors that live can be built, and all requests can be sent.
+-- Worlds in which all living actors can be built, and all requests can be sent.
 use Rattle.std.specs.Prelude.{◌≡◌, ℕ, true, Bool, List, Some}
 use Rattle.std.specs.List.{AllByRecursion}
 use Rattle.actor_tree.specs.declared.actor.Actor.{Actor}
@@ -18,11 +18,12 @@ use Rattle.pending_queue.specs.declared.item.Item.{Item}
 use Rattle.pending_queue.specs.declared.item.Item.TheVariants as item
 use Rattle.channel_model.specs.Ends.{End, World, Packet, message, mark, StackEntry}
 use Rattle.channel_model.specs.Events.{Move}
-use Rattle.channel_model.specs.Numbers.{other, sends, is_sync_row, request_row}
+use Rattle.ipdl_base.specs.Sides.{other, sends}
+use Rattle.channel_model.specs.Numbers.{is_sync_row, request_row}
 use Rattle.channel_laws.specs.Laws.{world_of}
 use Rattle.wait_report.specs.Sendable.{IsBuildable, IsSendable}
 
--- A request of a number, that an end of a side has sent: its message can be sent, and that side sends it.
+-- A request of a number that an end of a side has sent: its message can be sent, and that side sends it.
 pub record IsSentBy (schema : Schema) (top : ℕ) (side : Side) (number : ℕ) : Type 0 where
   pub row : MessageRow
   pub found : request_row schema number ≡ Some row
@@ -53,12 +54,12 @@ BodyArrives schema m sync level (Reply vs) = Unit {0}
 BodyArrives schema m sync level (Fault reason) = Unit {0}
 BodyArrives schema m sync level Goodbye = Unit {0}
 
--- a request that has arrived is one that a side has sent, with what its row says
+-- a request that has arrived is one that a side has sent, with the sync and level of its row
 abbrev pub ItemIsSendable : Schema → ℕ → Side → Item → Type 0
 ItemIsSendable schema top side (item.Message m sync level) = MessageIsSendable schema top side m × BodyArrives schema m sync level m.body
 ItemIsSendable schema top side item.Broken = Unit {0}
 
--- A wait is for a sync request that the end has sent, and a dispatch of one that the other end has.
+-- A wait is for a sync request that the end has sent, and a dispatch is of a request that the other end has sent.
 abbrev pub FrameGoes : Side → MessageRow → StackFrame → Type 0
 FrameGoes side row (Dispatch head) = sends (other side) row.direction ≡ true
 FrameGoes side row (Wait head answer) = (sends side row.direction ≡ true) × (is_sync_row row ≡ true)
@@ -75,7 +76,8 @@ pub record EntryIsSendable (schema : Schema) (top : ℕ) (side : Side) (entry : 
 abbrev pub ActorIsBuildable : Schema → ℕ → Actor → Type 0
 ActorIsBuildable schema top a = IsBuildable schema top a.protocol
 
--- All actors that live at an end can be built, and all requests that it has sent, handles or has been given can be sent.
+-- All actors that live at an end can be built, and all requests that it has sent, handles or has received can be
+-- sent.
 pub record IsSendableEnd (schema : Schema) (top : ℕ) (side : Side) (e : End) : Type 0 where
   pub side_is : e.side ≡ side
   pub actors : AllByRecursion (ActorIsBuildable schema top) e.actors
@@ -83,7 +85,7 @@ pub record IsSendableEnd (schema : Schema) (top : ℕ) (side : Side) (e : End) :
   pub arrived : AllByRecursion (ItemIsSendable schema top (other side)) e.arrived
   pub outbox : AllByRecursion (MessageIsSendable schema top side) e.outbox
 
--- So it is at both ends and on the links.
+-- Both ends are sendable, and so is each packet on the links.
 pub record IsSendableWorld (schema : Schema) (top : ℕ) (w : World) : Type 0 where
   pub parent : IsSendableEnd schema top Parent w.parent
   pub child : IsSendableEnd schema top Child w.child

@@ -1,4 +1,4 @@
--- What is known is all: where nothing changes any more, each derivation is known.
+-- All is known: if nothing changes any more, each derivation is known.
 use Rattle.std.proofs.Common.{◌≡◌, ◌↔◌, ℕ, ◌+◌, ◌≤◌, Bool, true, false, ◌&&◌, nat_le, List, [], ◌∷◌, ap, subst, ◌∙◌, arith, inl, inr}
 use Rattle.std.specs.List.{Contains}
 use Rattle.std.proofs.lemmas.Bool.Decides.{leb_tells}
@@ -71,7 +71,7 @@ module _ (schema : Schema) (top : ℕ) (types : List ℕ) (built : List Bool) (h
         let rest = values-known fields others values (omega (arith, few, most)) in
         omega (arith, one, rest, few)
 
--- a message can be sent just where that is known
+-- a message can be sent exactly where this is known
 pub known-exactly : (schema : Schema) (top : ℕ) (types : List ℕ) (built : List Bool) → IsKnown schema top types built → (row : MessageRow) → sendable.IsMessage schema row → (can_send types built row ≡ true) ↔ IsSendable schema top row
 known-exactly schema top types built h row found = (λ e. sound-message schema top types built row h.sound found e, λ s. message-known schema top types built h.closed row s)
 

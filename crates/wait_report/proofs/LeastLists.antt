@@ -1,4 +1,4 @@
--- Sums and least values of lists, as loops find them.
+-- Sums and least values of lists, as loops compute them.
 use Rattle.std.proofs.Common.{◌≡◌, ℕ, ◌+◌, ◌≤◌, min, Bool, List, [], ◌∷◌, drop, length, subst, arith}
 use Rattle.std.proofs.lemmas.List.{drop_all}
 use Rattle.ipdl_base.specs.declared.schema.ParamRow.{ParamRow}

@@ -1,4 +1,4 @@
--- What a round has come to, one look after another.
+-- The result of a round, one look after another.
 use Rattle.std.proofs.Common.{◌≡◌, ◌≢◌, ◌⊎◌, inl, inr, ℕ, zero, suc, ◌+◌, ◌<◌, ◌≤◌, Bool, true, false, ◌&&◌, if◌then◌else◌, nat_le, List, [], ◌∷◌, length, take, get_or, eqb, refl, sym, ap, subst, ◌∙◌, arith}
 use Rattle.std.specs.List.{Contains, slice_set, slice_index_or}
 use Rattle.std.proofs.lemmas.Bool.Decides.{eqb_tells, leb_tells}
@@ -112,7 +112,7 @@ module _ (schema : Schema) (types : List ℕ) (old : List Bool) (row : MessageRo
       closed : (seen : MessageRow) → seen ≡ row → IsClosedMessage types old seen
       closed seen same = subst (IsClosedMessage types old) (sym same) at-row
 
--- a message stays right where no fewer protocols are told of
+-- a message stays right if the number of protocols stays the same
 pub right-on : (schema : Schema) (old new : List Bool) (row : MessageRow) → length new ≡ length old → IsRightMessage schema old row → IsRightMessage schema new row
 right-on schema old new row size h = record { found = h.found; within = λ p kind. subst (λ (n : ℕ). p < n) (sym size) (h.within p kind) }
 
@@ -129,11 +129,11 @@ seen-more xs i x y within is there = elim (Contains-append_cases (take i xs) (ge
   | inr one ↦ inr (the-one (get_or xs i x) y one ∙ sym is)
 ]
 
--- some of the first of a list are of the list
+-- the elements of a prefix of a list are elements of the list
 pub in-list : {A : Type 0} (xs : List A) (i : ℕ) (x : A) → i < length xs → x ≡ get_or xs i x → Contains xs x
 in-list xs i x within is = (i, within, sym is)
 
--- what a loop over messages or protocols has come to behind one more
+-- the result of a loop over messages or protocols after one more of them
 pub messages-then : (schema : Schema) (types : List ℕ) (First Then Seen : MessageRow → Type 0) (old mid new : List Bool) (before more changed : Bool) → MessagesLook schema types First old mid before → MessagesLook schema types Then mid new more → ((row : MessageRow) → Seen row → First row ⊎ Then row)
     → ((more ≡ true) × (changed ≡ true)) ⊎ ((more ≡ false) × (changed ≡ before)) → MessagesLook schema types Seen old new changed
 messages-then schema types First Then Seen old mid new before more changed a b seen (inl (m, c)) =
@@ -141,7 +141,7 @@ messages-then schema types First Then Seen old mid new before more changed a b s
 messages-then schema types First Then Seen old mid new before more changed a b seen (inr (m, c)) =
     subst (MessagesLook schema types Seen old new) (sym c) (messages-same schema types First Then Seen old mid new before a (subst (MessagesLook schema types Then mid new) m b) seen)
 
--- A round in which no lesser value was found: what its messages have come to.
+-- A round in which no lesser value was found: the result for its messages.
 pub around-same : (schema : Schema) (types types_after : List ℕ) (built built_after : List Bool) (more : Bool) → TypesLook schema built (length schema.types) types types_after false → MessagesLook schema types_after (IsMessageOf schema.protocols) built built_after more
     → RoundLook schema types built types_after built_after more
 around-same schema types types_after built built_after more a b = record {

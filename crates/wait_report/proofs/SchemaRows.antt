@@ -1,4 +1,4 @@
--- The messages of a sound schema, as they stand in its protocols.
+-- The messages of a sound schema, in their protocols.
 use Rattle.std.proofs.Common.{◌≡◌, ◌⊎◌, inl, inr, ℕ, zero, suc, ◌+◌, ◌*◌, ◌/◌, ◌%◌, ◌<◌, Bool, true, false, cond, find, List, [], ◌∷◌, length, Some, refl, sym, ap, subst, ◌∙◌, arith}
 use Rattle.std.specs.List.{All, Contains, flat_map, slice_get}
 use Rattle.std.proofs.lemmas.List.Elements.{All-contains, Contains-append_cases, Contains-append_left, Contains-append_right}
@@ -28,7 +28,7 @@ contains-later x y xs (k, below, is) = (suc k, omega (arith, below), is)
 pub none-in-nothing : {A B : Type 0} (y : A) → Contains [] y → B
 none-in-nothing y (k, below, is) = absurd (omega (arith, below))
 
--- what stands in a list has a place
+-- an element of a list has a place
 pub place-of : {A : Type 0} (xs : List A) (x : A) → Contains xs x → (k : ℕ) × (slice_get xs k ≡ Some x)
 place-of xs x (k, below, is) = (k, slice_get-get_or xs k x below ∙ ap (λ (y : _). Some y) is)
 
@@ -56,7 +56,7 @@ flat-in f (z ∷ zs) x y there inside = elim (contains-cases z x zs there) [
 
 -- Schemas
 
--- a message of a schema is one of a protocol of it
+-- a message of a schema is a message of one of its protocols
 pub of-protocol : (schema : Schema) (row : MessageRow) → IsMessage schema row → IsMessageOf schema.protocols row
 of-protocol schema row found = flat-there (λ (p : ProtocolRow). p.messages) schema.protocols row (found-there (has_number row.number) (flat_map (λ (p : ProtocolRow). p.messages) schema.protocols) row found)
 

@@ -1,11 +1,11 @@
--- Lists in order, and what stands in lists that were made of others.
+-- Lists in order, and the elements of lists that were made from others.
 use Rattle.std.proofs.Common.{◌≡◌, ◌⊎◌, inl, inr, Bool, true, false, cond, List, [], ◌∷◌, ◌++◌, map, filter, refl, sym, ap, subst, ◌∙◌, arith}
 use Rattle.std.specs.List.{AllByRecursion, AllPairs, Contains}
 use Rattle.std.proofs.lemmas.List.Elements.{All-from_recursion}
 use Rattle.std.proofs.lemmas.List.Kept.{AllPairs-cons}
 use Rattle.wait_report.proofs.SchemaRows.{contains-cases, contains-here, contains-later, none-in-nothing}
 
--- each element is before all that are behind it
+-- each element is before all that follow it
 abbrev pub IsOrdered : {A : Type 0} → (A → A → Type 0) → List A → Type 0
 IsOrdered R [] = Unit {0}
 IsOrdered R (x ∷ xs) = AllByRecursion (R x) xs × IsOrdered R xs
@@ -37,7 +37,7 @@ pub all-pairs : {A : Type 0} (R : A → A → Type 0) (xs : List A) → IsOrdere
 all-pairs R [] h = no-pairs R
 all-pairs R (x ∷ xs) h = AllPairs-cons R x xs (All-from_recursion (R x) xs h.0) (all-pairs R xs h.1)
 
--- What stands in them
+-- The elements of these lists
 
 pub map-in : {A B : Type 0} (f : A → B) (xs : List A) (x : A) → Contains xs x → Contains (map f xs) (f x)
 map-in f [] x h = none-in-nothing x h

@@ -1,4 +1,4 @@
--- What is known of least values is so, and stays so where a lesser one is found.
+-- What is known of least values is true, and stays true when a lesser one is found.
 use Rattle.std.proofs.Common.{◌≡◌, ◌≢◌, ◌⊎◌, inl, inr, ℕ, suc, ◌+◌, ◌<◌, ◌≤◌, min, Bool, true, false, cond, List, [], ◌∷◌, length, get_or, Some, eqb, refl, sym, ap, subst, ◌∙◌, arith}
 use Rattle.std.specs.List.{Contains, slice_get, slice_set, slice_index_or}
 use Rattle.std.proofs.lemmas.Bool.{cases_lt}
@@ -17,7 +17,7 @@ use Rattle.wait_report.specs.Sendable as sendable
 use Rattle.wait_report.specs.Sendable.{least_bytes, IsBuildable, is_top, HasValueWithin, using_type, null, actor, array, maybe, unique, struct, union, HaveValuesWithin, nothing, first}
 use Rattle.wait_report.specs.Least.{too_many, is_built, least_of, sum_of, least_in, row_least, AreSound, known, TypeLook, Spreads}
 
--- A component of some, and a value of it.
+-- One of some components, and a value of it.
 pub record HasComponent (schema : Schema) (top : ℕ) (components : List Shape) (bytes : ℕ) : Type 0 where
   pub component : Shape
   pub there : Contains components component

@@ -31,7 +31,7 @@ AreWithin low high numbers = AllByRecursion (λ n. (low ≤ n) × (n < high)) nu
 abbrev Rise : List ℕ → Type 0
 Rise numbers = IsOrdered (λ a b. a < b) numbers
 
--- messages that stand in a protocol from a place on
+-- messages that are in a protocol, from a place on
 abbrev StandFrom : ℕ → ℕ → List MessageRow → Type 0
 StandFrom p i rows = (k : ℕ) (row : MessageRow) → slice_get rows k ≡ Some row → row.number ≡ p * 65536 + 2 * (i + k)
 
@@ -149,7 +149,7 @@ side-is side taken (v ∷ waiting) = all-both _ (pairs_under side taken v) (pair
     one [] = tt
     one (n ∷ ns) = (refl, one ns)
 
--- What stands in them
+-- The elements of these lists
 
 module _ (schema : Schema) (sound : IsSound schema) (top : ℕ) (types : List ℕ) (built : List Bool) (h : IsKnown schema top types built) where
   number-one : (role : Role) (side : Side) (n : ℕ) → Contains (numbers_of types built role side schema.protocols) n → IsSendableOne schema top (plays role side) n

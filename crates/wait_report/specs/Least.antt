@@ -1,4 +1,4 @@
--- The least values of types as they are found, one look after another: what the code knows on its way.
+-- The least values of types as they are found, one look after another: what the code knows at each point.
 use Rattle.std.specs.Prelude.{◌≡◌, ℕ, ◌+◌, ◌<◌, ◌≤◌, nat_le, min, Bool, true, false, ◌&&◌, if◌then◌else◌, List, [], ◌∷◌, length, slice_get, Some}
 use Rattle.std.specs.List.{Contains, slice_index_or, sum_by}
 use Rattle.ipdl_base.specs.declared.builtin.Builtin.{Builtin as BuiltinType}
@@ -14,11 +14,11 @@ use Rattle.ipdl_base.specs.Builtins.{is_carried}
 use Rattle.value_types.specs.Sizes.{made_size}
 use Rattle.wait_report.specs.Sendable.{least_bytes, home_of, IsMessage, IsBuildable, HasValueWithin}
 
--- more than any frame takes: that of a type for which no value is known
+-- more bytes than any frame takes: the size of a type for which no value is known
 abbrev pub too_many : ℕ
 too_many = 4097
 
--- The bytes that are known for structs and unions, and the protocols that are known to be built.
+-- the bytes of the least value of a builtin, or `too_many` where it is not carried
 abbrev pub builtin_least : BuiltinType → ℕ
 builtin_least builtin = if is_carried builtin then least_bytes builtin else too_many
 
@@ -29,7 +29,7 @@ abbrev pub actor_least : List Bool → ℕ → Bool → ℕ
 actor_least built protocol true = 4
 actor_least built protocol false = if is_built built protocol then 4 else too_many
 
--- the least value of a type, of what is known
+-- the least value of a type, by what is known
 abbrev pub least_of : List ℕ → List Bool → Shape → ℕ
 least_of types built (Builtin b) = builtin_least b
 least_of types built (Using name) = 4
@@ -63,20 +63,21 @@ can_send types built row = row.carried && (is_built built (home_of row) && nat_l
 abbrev pub known : List ℕ → ℕ
 known types = sum_by (λ bytes. bytes) types
 
--- What is known is so: there is a value of so many bytes of each type that has one, and a protocol that is known to be built can be.
+-- What is known is true: each type with known bytes has a value within these bytes, and a protocol that is known to
+-- be built can be built.
 pub record AreSound (schema : Schema) (top : ℕ) (types : List ℕ) (built : List Bool) : Type 0 where
   pub values : (t : ℕ) → slice_index_or types t too_many ≤ 4096 → HasValueWithin schema top (Named t) (slice_index_or types t too_many)
   pub protocols : (protocol : ℕ) → is_built built protocol ≡ true → IsBuildable schema top protocol
 
--- a struct or union has no lesser value than is known
+-- a struct or union has no lesser value than the known one, by what is known
 abbrev pub IsClosedType : Schema → List ℕ → List Bool → ℕ → Type 0
 IsClosedType schema types built t = (row : TypeRow) → slice_get schema.types t ≡ Some row → slice_index_or types t too_many ≤ row_least types built row
 
--- what a message constructs is known to be built, if it can be sent
+-- the protocol that a message constructs is known to be built, if the message can be sent
 abbrev pub IsClosedMessage : List ℕ → List Bool → MessageRow → Type 0
 IsClosedMessage types built row = (protocol : ℕ) → row.kind ≡ Constructor protocol → can_send types built row ≡ true → is_built built protocol ≡ true
 
--- A type was looked at: what is known of it is so where all was, and where nothing changed, nothing can.
+-- A type was looked at: what is known stays true, and where nothing changed, nothing more can be found of the type.
 pub record TypeLook (schema : Schema) (built : List Bool) (t : ℕ) (old new : List ℕ) (changed : Bool) : Type 0 where
   pub size : length new ≡ length old
   pub sound : (top : ℕ) → AreSound schema top old built → AreSound schema top new built
@@ -85,7 +86,8 @@ pub record TypeLook (schema : Schema) (built : List Bool) (t : ℕ) (old new : L
   pub same : changed ≡ false → new ≡ old
   pub closed : changed ≡ false → IsClosedType schema old built t
 
--- Types were looked at, up to a number: what is known of them is so where it was, and where nothing changed, nothing can.
+-- The types up to a number were looked at: what is known stays true, and where nothing changed, nothing more can be
+-- found of them.
 pub record TypesLook (schema : Schema) (built : List Bool) (n : ℕ) (old new : List ℕ) (changed : Bool) : Type 0 where
   pub size : length new ≡ length old
   pub sound : (top : ℕ) → AreSound schema top old built → AreSound schema top new built
@@ -94,7 +96,7 @@ pub record TypesLook (schema : Schema) (built : List Bool) (n : ℕ) (old new : 
   pub same : changed ≡ false → new ≡ old
   pub closed : changed ≡ false → (t : ℕ) → t < n → IsClosedType schema old built t
 
--- a message of the schema: what it constructs is one of the protocols of which it is known whether they are built
+-- A message of the schema: if it constructs a protocol, that is one of the protocols in `built`.
 pub record IsRightMessage (schema : Schema) (built : List Bool) (row : MessageRow) : Type 0 where
   pub found : IsMessage schema row
   pub within : (protocol : ℕ) → row.kind ≡ Constructor protocol → protocol < length built
@@ -103,11 +105,11 @@ pub record IsRightMessage (schema : Schema) (built : List Bool) (row : MessageRo
 abbrev pub IsMessageOf : List ProtocolRow → MessageRow → Type 0
 IsMessageOf protocols row = (protocol : ProtocolRow) × Contains protocols protocol × Contains protocol.messages row
 
--- how many protocols are not known to be built
+-- the number of protocols that are not known to be built
 abbrev pub unbuilt : List Bool → ℕ
 unbuilt built = sum_by (λ b. if b then 0 else 1) built
 
--- Messages were looked at in the same way.
+-- Messages were looked at, with the same result.
 pub record MessagesLook (schema : Schema) (types : List ℕ) (Seen : MessageRow → Type 0) (old new : List Bool) (changed : Bool) : Type 0 where
   pub size : length new ≡ length old
   pub sound : (top : ℕ) → AreSound schema top types old → AreSound schema top types new
@@ -117,7 +119,7 @@ pub record MessagesLook (schema : Schema) (types : List ℕ) (Seen : MessageRow 
   pub same : changed ≡ false → new ≡ old
   pub closed : changed ≡ false → (row : MessageRow) → Seen row → IsClosedMessage types old row
 
--- Some looks, in any order: what is known is so where it was, and no less is known.
+-- Some looks, in any order: what is known stays true, and no less is known.
 pub record Spreads (schema : Schema) (types : List ℕ) (built : List Bool) (types_after : List ℕ) (built_after : List Bool) : Type 0 where
   pub size : length types_after ≡ length types
   pub count : length built_after ≡ length built
@@ -125,13 +127,14 @@ pub record Spreads (schema : Schema) (types : List ℕ) (built : List Bool) (typ
   pub kept : (protocol : ℕ) → is_built built protocol ≡ true → is_built built_after protocol ≡ true
   pub lower : known types_after + unbuilt built_after ≤ known types + unbuilt built
 
--- All is known: nothing changes any more.
+-- All is known: no look finds more.
 pub record AreClosed (schema : Schema) (top : ℕ) (types : List ℕ) (built : List Bool) : Type 0 where
   pub top_built : is_built built top ≡ true
   pub all_types : (t : ℕ) → IsClosedType schema types built t
   pub all_messages : (row : MessageRow) → IsMessageOf schema.protocols row → IsClosedMessage types built row
 
--- All types and messages were looked at, and perhaps some again: what is known is so where it was, and where nothing changed, nothing can.
+-- All types and messages were looked at, and perhaps some again: what is known stays true, and where nothing changed,
+-- nothing more can be found.
 pub record RoundLook (schema : Schema) (types : List ℕ) (built : List Bool) (types_after : List ℕ) (built_after : List Bool) (changed : Bool) : Type 0 where
   pub size : length types_after ≡ length types
   pub count : length built_after ≡ length built
@@ -140,7 +143,7 @@ pub record RoundLook (schema : Schema) (types : List ℕ) (built : List Bool) (t
   pub less : changed ≡ true → known types_after + unbuilt built_after < known types + unbuilt built
   pub closed : changed ≡ false → (top : ℕ) → is_built built_after top ≡ true → AreClosed schema top types_after built_after
 
--- all that can be known: it is so, and nothing is left
+-- All that can be known is known, and it is true.
 pub record IsKnown (schema : Schema) (top : ℕ) (types : List ℕ) (built : List Bool) : Type 0 where
   pub sound : AreSound schema top types built
   pub closed : AreClosed schema top types built

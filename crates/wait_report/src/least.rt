@@ -1,3 +1,4 @@
+//! The least values of types, by what is known so far.
 ghost use Rattle.std.specs.Prelude.{◌≡◌};
 ghost use Rattle.value_types.specs.Sizes.{made_size};
 ghost use Rattle.wait_report.specs.Least as least;
@@ -8,10 +9,10 @@ use value_types::number_bytes;
 /// The greatest number of bytes that a request carries.
 pub const MOST_BYTES: usize = 4096;
 
-/// More than any request carries.
+/// More bytes than any request carries.
 pub const TOO_MANY: usize = 4097;
 
-/// The bytes of the least value of a builtin.
+/// Returns the bytes of the least value of a builtin.
 fn least_of_builtin(builtin: Builtin) -> usize
     ensures { result ≡ least.builtin_least builtin }
 {
@@ -22,7 +23,7 @@ fn least_of_builtin(builtin: Builtin) -> usize
     }
 }
 
-/// Whether a protocol is known to be built.
+/// Returns whether a protocol is known to be built.
 pub fn is_built(built: &[bool], protocol: u32) -> bool
     ensures { result ≡ least.is_built built.now protocol }
 {
@@ -32,7 +33,7 @@ pub fn is_built(built: &[bool], protocol: u32) -> bool
     }
 }
 
-/// The bytes of the least value of a type that is known.
+/// Returns the bytes of the least value that is known of a type.
 pub fn least_of(shape: &Shape, types: &[usize], built: &[bool]) -> usize
     ensures { result ≡ least.least_of types.now built.now shape.now }
 {
@@ -54,7 +55,7 @@ pub fn least_of(shape: &Shape, types: &[usize], built: &[bool]) -> usize
     }
 }
 
-/// The bytes of the least values of fields or parameters together.
+/// Returns the bytes of the least values of fields or parameters together.
 fn sum_of(fields: &[ParamRow], types: &[usize], built: &[bool]) -> usize
     ensures { result ≡ least.sum_of types.now built.now fields.now }
 {
@@ -70,7 +71,7 @@ fn sum_of(fields: &[ParamRow], types: &[usize], built: &[bool]) -> usize
     bytes
 }
 
-/// The bytes of the least value of any of these types.
+/// Returns the bytes of the least value of any of these types.
 fn least_in(components: &[Shape], types: &[usize], built: &[bool]) -> usize
     ensures { result ≡ least.least_in types.now built.now components.now }
 {
@@ -81,7 +82,7 @@ fn least_in(components: &[Shape], types: &[usize], built: &[bool]) -> usize
     bytes
 }
 
-/// The bytes of the least value of a struct or a union.
+/// Returns the bytes of the least value of a struct or a union.
 pub fn row_least(row: &TypeRow, types: &[usize], built: &[bool]) -> usize
     ensures { result ≡ least.row_least types.now built.now row.now }
 {
@@ -92,7 +93,7 @@ pub fn row_least(row: &TypeRow, types: &[usize], built: &[bool]) -> usize
     inside.saturating_add(4).min(TOO_MANY)
 }
 
-/// The bytes of the new id that a request carries.
+/// Returns the bytes of the new id that a request carries.
 fn made_bytes(kind: Kind) -> usize
     ensures { result ≡ made_size kind }
 {
@@ -102,7 +103,7 @@ fn made_bytes(kind: Kind) -> usize
     }
 }
 
-/// Whether a message can be sent, by what is known.
+/// Returns whether a message can be sent, by what is known.
 pub fn can_send(row: &MessageRow, types: &[usize], built: &[bool]) -> bool
     ensures { result ≡ least.can_send types.now built.now row.now }
 {

@@ -1,5 +1,6 @@
-//! What may interrupt a wait: which messages may be handled at an end of a channel while it waits for the reply to a sync
-//! message, by the schema alone (docs/waits.md). It knows nothing of how a channel works.
+//! What may interrupt a wait: which messages may be handled at an end of a channel while it waits for the
+//! reply to a
+//! sync message, by the schema alone (docs/waits.md). This crate does not depend on how a channel works.
 #![tactic(auto)]
 
 mod known;

@@ -1,3 +1,4 @@
+//! The report of what may interrupt a wait.
 ghost use Rattle.std.specs.Prelude.{◌≡◌, ◌++◌, ◌<◌, IfOk, OnOk, length};
 ghost use Rattle.ipdl_base.specs.Sound.{IsSound};
 ghost use Rattle.wait_report.specs.Listed as listed;
@@ -9,7 +10,7 @@ use crate::roles::{Role, numbers_of};
 use ipdl_base::{Items, Schema, Side};
 use std::alloc::{AllocError, Global};
 
-/// Adds the pairs of one message that is waited for.
+/// Adds the pairs of one message whose reply is waited for.
 fn add_pairs_under(
     side: Side,
     waits: u32,
@@ -28,7 +29,7 @@ fn add_pairs_under(
     Ok(())
 }
 
-/// Adds the pairs of messages that are waited for and of messages that are taken.
+/// Adds the pairs of the messages in `waiting` with those in `taken`.
 fn add_pairs(
     side: Side,
     waiting: &[u32],
@@ -59,9 +60,9 @@ fn add_side(
     add_pairs(side, waiting.as_slice(), taken.as_slice(), pairs)
 }
 
-/// For each sync message the messages that may be handled while its sender waits, where `top` is the top protocol: each pair
-/// once, by side, then by the message that is waited for, then by the other. Takes time in proportion to the schema and the
-/// pairs. The only error is want of memory.
+/// Returns, for each sync message, the messages that may be handled while its sender waits, where `top` is
+/// the top protocol. Each pair is listed once, ordered by side, then by the message that is waited for, then
+/// by the other. Takes time in proportion to the schema and the pairs. Fails only if memory runs out.
 pub fn pairs(alloc: Global, schema: &Schema, top: u32) -> Result<Pairs, AllocError>
     requires sound { IsSound schema.now }
     requires there { top < length schema.now.protocols }

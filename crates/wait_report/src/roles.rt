@@ -1,61 +1,51 @@
+//! Which messages may be waited for, and which may be handled meanwhile.
 ghost use Rattle.std.specs.Prelude.{◌≡◌, ◌++◌, IfOk, OnOk};
 ghost use Rattle.wait_report.specs.Listed as listed;
-ghost use Rattle.wait_report.specs.Pairs.{may_wait, may_interrupt, sends};
+ghost use Rattle.wait_report.specs.Pairs.{may_wait, may_interrupt};
 
 use crate::known::LeastValues;
 use crate::least::can_send;
-use ipdl_base::{Direction, Level, MessageRow, ProtocolRow, Semantics, Side};
+use ipdl_base::{Level, MessageRow, ProtocolRow, Semantics, Side};
 use std::alloc::{AllocError, Global};
 
-/// What a message is in a pair.
+/// The role of a message in a pair.
 #[derive(Clone, Copy)]
 pub enum Role {
-    /// The one whose reply is waited for.
+    /// The message whose reply is waited for.
     Waits,
-    /// The one that is handled meanwhile.
+    /// The message that is handled meanwhile.
     Takes,
 }
 
-/// Whether an end of a side sends what has this direction.
-fn sends(side: Side, direction: Direction) -> bool
-    ensures { result ≡ sends side direction }
-{
-    match direction {
-        Direction::Both => true,
-        Direction::Child => side == Side::Parent,
-        Direction::Parent => side == Side::Child,
-    }
-}
-
-/// Whether an end of a side may handle another request while it waits for the reply to this message.
+/// Returns whether an end of a side may handle another request while it waits for the reply to this message.
 fn may_wait(side: Side, row: &MessageRow) -> bool
     ensures { result ≡ may_wait side row.now }
 {
     match side {
-        Side::Parent => { sends(Side::Parent, row.direction) && row.semantics == Semantics::Sync }
+        Side::Parent => { Side::Parent.sends(row.direction) && row.semantics == Semantics::Sync }
         Side::Child => {
-            sends(Side::Child, row.direction)
+            Side::Child.sends(row.direction)
                 && row.semantics == Semantics::Sync
                 && row.level != Level::InsideCpow
         }
     }
 }
 
-/// Whether an end of a side may handle this message while it waits.
+/// Returns whether an end of a side may handle this message while it waits.
 fn may_interrupt(side: Side, row: &MessageRow) -> bool
     ensures { result ≡ may_interrupt side row.now }
 {
     let inside = row.semantics == Semantics::Sync && row.level == Level::InsideSync;
     match side {
         Side::Parent => {
-            sends(Side::Child, row.direction) && (row.level == Level::InsideCpow || inside)
+            Side::Child.sends(row.direction) && (row.level == Level::InsideCpow || inside)
         }
-        Side::Child => sends(Side::Parent, row.direction) && inside,
+        Side::Child => Side::Parent.sends(row.direction) && inside,
     }
 }
 
 impl Role {
-    /// Whether a message may have the role at the end of a side.
+    /// Returns whether a message may have the role at the end of a side.
     fn suits(self, side: Side, row: &MessageRow) -> bool
         ensures { result ≡ listed.plays self side row.now }
     {
@@ -84,7 +74,7 @@ fn add_numbers(
     Ok(())
 }
 
-/// The numbers of the messages that have a role at the end of a side and can be sent.
+/// Returns the numbers of the messages that have a role at the end of a side and can be sent.
 pub fn numbers_of(
     alloc: Global,
     protocols: &[ProtocolRow],

@@ -1,3 +1,4 @@
+//! Looks at types and messages for what more is known of them.
 ghost use Rattle.std.specs.Prelude.{◌≡◌, ◌<◌, ℕ, IfOk, length, true};
 ghost use Rattle.std.specs.List.{Contains};
 ghost use Rattle.ipdl_base.specs.Sound.{IsSound};
@@ -7,7 +8,7 @@ use crate::least::{TOO_MANY, can_send, is_built, row_least};
 use ipdl_base::{Kind, MessageRow, ProtocolRow, Schema};
 use std::alloc::{AllocError, Global};
 
-/// Looks at a struct or a union: says whether a lesser value of it is known than before.
+/// Looks at a struct or a union, and returns whether its known least value has decreased.
 pub fn look_at_type(schema: &Schema, number: usize, types: &mut Vec<usize>, built: &[bool]) -> bool
     requires there { number < length schema.now.types }
     requires size { length types.old.items ≡ length schema.now.types }
@@ -22,7 +23,7 @@ pub fn look_at_type(schema: &Schema, number: usize, types: &mut Vec<usize>, buil
     }
 }
 
-/// Looks at all structs and unions: says whether a lesser value of one is known than before.
+/// Looks at all structs and unions, and returns whether a known least value has decreased.
 pub fn look_at_types(schema: &Schema, types: &mut Vec<usize>, built: &[bool]) -> bool
     requires size { length types.old.items ≡ length schema.now.types }
     ensures { least.TypesLook schema.now built.now (length schema.now.types) types.old.items types.new.items result }
@@ -36,7 +37,7 @@ pub fn look_at_types(schema: &Schema, types: &mut Vec<usize>, built: &[bool]) ->
     changed
 }
 
-/// Looks at a message: says whether it is now known that the protocol which it constructs can be built.
+/// Looks at a message, and returns whether the protocol that it constructs is now first known to be built.
 pub fn look_at_message(
     schema: &Schema,
     row: &MessageRow,
@@ -57,7 +58,7 @@ pub fn look_at_message(
     }
 }
 
-/// Looks at the messages of a protocol: says whether more protocols are known to be built.
+/// Looks at the messages of a protocol, and returns whether more protocols are known to be built.
 fn look_at_messages(
     schema: &Schema,
     rows: &[MessageRow],
@@ -76,7 +77,7 @@ fn look_at_messages(
     changed
 }
 
-/// Looks at the messages of protocols: says whether more protocols are known to be built.
+/// Looks at the messages of protocols, and returns whether more protocols are known to be built.
 pub fn look_at_protocols(
     schema: &Schema,
     protocols: &[ProtocolRow],
@@ -95,7 +96,7 @@ pub fn look_at_protocols(
     changed
 }
 
-/// Looks at all types and messages once: says whether more is known than before.
+/// Looks at all types and messages once, and returns whether more is known than before.
 pub fn look_around(schema: &Schema, types: &mut Vec<usize>, built: &mut Vec<bool>) -> bool
     requires sound { IsSound schema.now }
     requires size { length types.old.items ≡ length schema.now.types }

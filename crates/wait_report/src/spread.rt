@@ -1,3 +1,4 @@
+//! Looks at types and messages again when more is known of what they refer to.
 ghost use Rattle.std.specs.Prelude.{◌≡◌, ◌<◌, IfOk, OnOk, length};
 ghost use Rattle.ipdl_base.specs.Sound.{IsSound};
 ghost use Rattle.wait_report.specs.Least as least;
@@ -7,26 +8,26 @@ use crate::rounds::{look_around, look_at_message, look_at_type};
 use ipdl_base::{Kind, MessageRow, Schema, Shape, TypeRow};
 use std::alloc::{AllocError, Global};
 
-/// What is to be looked at where more is known of a type or a protocol that it speaks of.
+/// What has to be looked at again when more is known of a type or a protocol that it refers to.
 #[derive(Clone, Copy)]
 enum User {
     /// A struct or a union, by its number.
     Type(usize),
-    /// A union, by its number, through the component of an index alone.
+    /// A union, by its number, through the component with an index.
     Component(usize, usize),
-    /// A constructor: the number of its protocol, and its index there.
+    /// A constructor, by the number of its protocol and its index there.
     Message(usize, usize),
 }
 
-/// The users of each struct and union, and those of each protocol. They say what is looked at again; that nothing is left out
-/// rests on the look at all, and so nothing is proved of them.
+/// The users of each struct and union, and those of each protocol. They decide only what is looked at again.
+/// That nothing is left out is proved of the look at the whole schema, so nothing is proved of the users.
 #[derive(Drop)]
 pub struct Users {
     types: Vec<Vec<User>>,
     protocols: Vec<Vec<User>>,
 }
 
-/// An empty row for each of so many.
+/// Returns `count` empty rows.
 fn rows(alloc: Global, count: usize) -> Result<Vec<Vec<User>>, AllocError> {
     let mut rows = Vec::with_capacity(alloc, count)?;
     for _ in 0..count {
@@ -35,7 +36,7 @@ fn rows(alloc: Global, count: usize) -> Result<Vec<Vec<User>>, AllocError> {
     Ok(rows)
 }
 
-/// Adds a user to a row, where that is there.
+/// Adds a user to a row, if the row exists.
 fn add_user(row: usize, user: User, rows: &mut Vec<Vec<User>>) -> Result<(), AllocError> {
     if row < rows.len() {
         rows[row].push(user)?;
@@ -44,7 +45,7 @@ fn add_user(row: usize, user: User, rows: &mut Vec<Vec<User>>) -> Result<(), All
 }
 
 impl Users {
-    /// Adds a user of what a shape speaks of.
+    /// Adds a user of the type or protocol that a shape refers to, if any.
     fn add(&mut self, shape: &Shape, user: User) -> Result<(), AllocError> {
         match shape {
             Shape::Named(number) => add_user(*number as usize, user, &mut self.types),
@@ -55,7 +56,7 @@ impl Users {
         }
     }
 
-    /// Adds a struct or a union, with its number.
+    /// Adds a struct or a union, by its number.
     fn add_type(&mut self, number: usize, row: &TypeRow) -> Result<(), AllocError> {
         match row {
             TypeRow::Struct(_, fields) => {
@@ -72,7 +73,7 @@ impl Users {
         Ok(())
     }
 
-    /// Adds a message of a protocol, with its place, where it is a constructor.
+    /// Adds a message of a protocol, by its index, if it is a constructor.
     fn add_message(
         &mut self,
         protocol: usize,
@@ -92,7 +93,7 @@ impl Users {
         Ok(())
     }
 
-    /// The users of a schema's types and protocols.
+    /// Returns the users of a schema's types and protocols.
     pub fn of(alloc: Global, schema: &Schema) -> Result<Users, AllocError> {
         let mut users = Users {
             types: rows(alloc, schema.types.len())?,
@@ -110,7 +111,7 @@ impl Users {
     }
 }
 
-/// All structs, unions and constructors of a schema.
+/// Returns all structs, unions and constructors of a schema.
 fn all_users(alloc: Global, schema: &Schema) -> Result<Vec<User>, AllocError> {
     let mut work = Vec::with_capacity(alloc, schema.types.len())?;
     for (number, protocol) in schema.protocols.as_slice().iter().enumerate() {
@@ -134,7 +135,7 @@ fn add_work(row: usize, rows: &[Vec<User>], work: &mut Vec<User>) -> Result<(), 
     }
 }
 
-/// Looks at a union through one component: says whether a lesser value of it is known than before.
+/// Looks at a union through one component, and returns whether its known least value has decreased.
 fn look_at_component(
     schema: &Schema,
     number: usize,
@@ -163,7 +164,8 @@ fn look_at_component(
     }
 }
 
-/// Looks at a constructor at its place.
+/// Looks at the constructor at an index, and queues the users of its protocol if that is now known to be
+/// built.
 fn look_at_constructor(
     schema: &Schema,
     protocol: usize,
@@ -191,7 +193,7 @@ fn look_at_constructor(
     Ok(())
 }
 
-/// Looks at one, and adds to the work whoever speaks of what is now known.
+/// Processes one item, and queues those that refer to it if more is now known of it.
 fn visit(
     schema: &Schema,
     user: User,
@@ -236,8 +238,8 @@ fn visit(
     }
 }
 
-/// Looks at all types and messages once and, where more is known of one than before, again at those that speak of what was
-/// found, until nobody is left: says whether more is known than before.
+/// Looks at all types and messages once. Where more is known than before, looks at them again, and at those
+/// that refer to what was found, until nothing is left to look at. Returns whether more is known than before.
 pub fn spread(
     alloc: Global,
     schema: &Schema,

@@ -1,12 +1,14 @@
+//! The lines of a report, for comparison with a row.
 ghost use Rattle.ipdl_base.specs.Sound.{IsSound};
 
-use ipdl_base::{MemoryFiles, Schema, Side};
+use ipdl_base::{Schema, Side};
+use memory_files::MemoryFiles;
 use schema_of_text::schema_of;
 use std::alloc::Global;
 use std::test::Fail;
 use wait_report::{Pair, pairs};
 
-/// The files that stand in a text, each behind a line with `@` and its name.
+/// Reads the files from a text, each after a line with `@` and its name.
 fn files_of(alloc: Global, text: &str) -> Result<MemoryFiles, Fail> {
     let mut files = Vec::new(alloc);
     for part in text.split("@ ") {
@@ -18,7 +20,7 @@ fn files_of(alloc: Global, text: &str) -> Result<MemoryFiles, Fail> {
     Ok(MemoryFiles::new(files, Vec::new(alloc)))
 }
 
-/// The number of the protocol with this name.
+/// Returns the number of the protocol with this name.
 fn number_of(schema: &Schema, name: &[u8]) -> Result<u32, Fail> {
     let mut number: u32 = 0;
     for protocol in schema.protocols.as_slice() {
@@ -30,7 +32,7 @@ fn number_of(schema: &Schema, name: &[u8]) -> Result<u32, Fail> {
     Err("no such protocol".into())
 }
 
-/// The name of a message, with that of its protocol.
+/// Returns the name of a message, with the name of its protocol.
 fn name_of(alloc: Global, schema: &Schema, number: u32) -> Result<String, Fail>
     requires { IsSound schema.now }
 {
@@ -45,7 +47,7 @@ fn name_of(alloc: Global, schema: &Schema, number: u32) -> Result<String, Fail>
     Ok(name)
 }
 
-/// The line of a pair.
+/// Returns the line of a pair.
 fn line_of(alloc: Global, schema: &Schema, pair: Pair) -> Result<String, Fail>
     requires { IsSound schema.now }
 {
@@ -58,8 +60,8 @@ fn line_of(alloc: Global, schema: &Schema, pair: Pair) -> Result<String, Fail>
     Ok(format!(in alloc; "{side} waits {waits} takes {takes}\n")?)
 }
 
-/// The lines of the report on the program of a text, where this protocol, in the file with its name,
-/// is the top.
+/// Returns the lines of the report on the program in a text, where this protocol, in the file of its name, is
+/// the top.
 pub fn report(alloc: Global, text: &str, top: &str) -> Result<String, Fail> {
     let file = format!(in alloc; "{top}.ipdl")?;
     let schema = schema_of(alloc, files_of(alloc, text)?, file.as_str())?;

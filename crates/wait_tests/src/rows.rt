@@ -1,12 +1,18 @@
+//! Rows of programs with the lines of their reports.
+
 /// A program with its top protocol and the lines of its report.
 pub struct Row {
+    /// What the row tests.
     pub says: &'static str,
+    /// The top protocol.
     pub top: &'static str,
+    /// The files of the program, each after a line with `@` and its name.
     pub text: &'static str,
+    /// The lines of the report.
     pub lines: &'static str,
 }
 
-/// Who may interrupt whom: sides, levels, directions and order.
+/// Which messages interrupt which: sides, levels, directions and order.
 pub const ROWS: &[Row] = &[
     Row {
         says: "calls inside calls",

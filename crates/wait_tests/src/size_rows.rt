@@ -1,6 +1,8 @@
+//! Rows of programs at the limit of 4,096 bytes.
 use crate::rows::Row;
 
-/// Types of 12, 28, 60, 124, 252, 508, 1,020, 2,044 and 4,092 bytes: a struct takes four bytes beside its fields.
+/// Types of 12, 28, 60, 124, 252, 508, 1,020, 2,044 and 4,092 bytes: a struct takes four bytes besides its
+/// fields.
 pub const TYPES: &str = "struct B0 { int64_t a; };
 struct B1 { B0 a; B0 b; };
 struct B2 { B1 a; B1 b; };
@@ -12,7 +14,7 @@ struct B7 { B6 a; B6 b; };
 struct B8 { B7 a; B7 b; };
 ";
 
-/// Messages of one protocol `PS`, behind those types: which of them take at most 4,096 bytes.
+/// Messages of one protocol `PS`, after those types, and which of them take at most 4,096 bytes.
 pub const ROWS: &[Row] = &[
     Row {
         says: "4,096 bytes of structs and a number",
@@ -70,7 +72,7 @@ pub const ROWS: &[Row] = &[
     },
 ];
 
-/// The types of the rows beside those.
+/// The further types of the rows.
 pub const MORE_TYPES: &str = "union First { B8; int32_t; };
 union Last { B8; B7; bool; };
 struct Tree { int32_t n; Knot more; };
@@ -79,7 +81,7 @@ struct Whole { B7 a; B6 b; B5 c; B4 d; B3 e; B2 f; B1 g; B0 h; B0 i; B0 j; int64
 struct Over { B8 a; B0[] b; };
 ";
 
-/// The parameters of a constructor, which has the four bytes of the new id beside them.
+/// The parameters of a constructor, whose new id takes four more bytes.
 pub const CONSTRUCTORS: &[Row] = &[
     Row {
         says: "4,096 bytes with the new id",

@@ -1,3 +1,4 @@
+//! The tests.
 use crate::lines::report;
 use crate::rows::{ROWS, Row};
 use crate::size_rows;
@@ -20,7 +21,7 @@ fn programs(rt: HostRuntime) -> Result<(), Fail> {
     Ok(())
 }
 
-/// A program of one protocol with these messages behind a sync one of the child.
+/// Returns a program of one protocol with these messages after a sync message of the child.
 fn program(alloc: Global, messages: &str) -> Result<String, Fail> {
     Ok(format!(in alloc;
         "@ PS.ipdl\n{}{}[NestedUpTo=inside_sync] sync protocol PS {{\nparent: sync Ask();\n{messages}\n}};\n",
@@ -40,7 +41,7 @@ fn sizes(rt: HostRuntime) -> Result<(), Fail> {
     Ok(())
 }
 
-/// A program of a protocol that builds another by a constructor with these parameters.
+/// Returns a program of a protocol that builds another by a constructor with these parameters.
 fn building(alloc: Global, parameters: &str) -> Result<String, Fail> {
     Ok(format!(in alloc;
         "@ PM.ipdl\ninclude protocol PN;\n{}[NestedUpTo=inside_sync] sync protocol PM {{ manages PN; parent: sync Ask(); child: async PN({parameters}); }};
@@ -63,7 +64,8 @@ fn constructors(rt: HostRuntime) -> Result<(), Fail> {
     Ok(())
 }
 
-/// A message of a chain of so many structs, of which each holds the next, told of from the first or from the last on.
+/// Returns a message of a chain of `structs` structs, each of which contains the next, declared from the
+/// first or from the last on.
 fn chain(alloc: Global, structs: u32, from_last: bool) -> Result<String, Fail> {
     let mut text = String::from_str(alloc, "@ PS.ipdl\n")?;
     for at in 0..structs {

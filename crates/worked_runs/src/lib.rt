@@ -1,5 +1,5 @@
 //! Texts for tests: files of worked protocols, and worked runs over them, each with its script and with
-//! what it prints (docs/scripts.md). None of the product stands on them.
+//! what it prints (docs/scripts.md). The program does not use this crate.
 #![tactic(auto)]
 
 mod protocols;

@@ -1,7 +1,9 @@
-use ipdl_base::MemoryFiles;
+//! Files of worked protocols.
+
+use memory_files::MemoryFiles;
 use std::alloc::{AllocError, Global};
 
-/// Files of protocols: each has its name behind `@ `, and then its text.
+/// Files of protocols. Each begins with `@ ` and its name, followed by its text.
 const PROTOCOLS: &str = "@ PC.ipdl
 protocol PC { parent: [Compress] async Up(int32_t n); [Compress=all] async Alls(int32_t n); async Mark(); [Compress] async Ask(int32_t n) returns (bool b); };
 @ PDesk.ipdl
@@ -116,13 +118,13 @@ child:
 };
 ";
 
-/// A file with this name and text.
+/// Returns a file with this name and text.
 fn file(alloc: Global, name: &str, text: &str) -> Result<(String, Vec<u8>), AllocError> {
     let name = String::from_str(alloc, name)?;
     Ok((name, Vec::from_slice(alloc, text.as_bytes())?))
 }
 
-/// The files of all worked protocols, in memory.
+/// Returns the files of all worked protocols, in memory.
 pub fn protocol_files(alloc: Global) -> Result<MemoryFiles, AllocError> {
     let mut files = Vec::new(alloc);
     for piece in PROTOCOLS.split("@ ") {

@@ -1,5 +1,8 @@
-/// Worked runs. Each row: its name, the file of its protocol, its word of turns, its limit and the death of
-/// an end, `-` for none; then its script; and behind `----` what it prints. `====` stands between two rows.
+//! Worked runs.
+
+/// Worked runs. Each row has its name, the file of its protocol, its word of turns, its limit and the
+/// death of an end, or `-`; then its script; and after `----` what it prints. `====` separates two
+/// rows.
 pub const RUNS: &str = "both-call-at-once PW.ipdl PCPC 10000 -
 parent main
 send top PW.CallC()

@@ -29,7 +29,7 @@ module _ (setting : Setting) (parent child : HalfView) (link : LinkView) where
     child_is = (stands-home setting sides.Child child link h.child_fits h.child_emptied h.home).half_is;
   }
 
--- the world of a half's own setting, told field by field
+-- the world of a half's own setting, field by field
 pub joined-is-world : (setting : Setting) (parent child : HalfView) (link : LinkView) → setting.schema ≡ parent.end.schema → setting.script ≡ parent.script → setting.stop ≡ parent.stop → setting.limit ≡ parent.limit
     → IsSplit (setting_of parent) parent child link → IsWorld setting (state_of setting link.lines) parent child link
 joined-is-world setting parent child link schema script stop limit h =

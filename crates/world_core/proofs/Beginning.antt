@@ -14,7 +14,7 @@ use Rattle.world_core.specs.LinkView.{LinkView}
 use Rattle.world_core.specs.WorldView.{opening_of, state_of}
 use Rattle.world_core.specs.Worlds.{IsHalfOf, IsOpening, IsOpeningLink, IsRun, IsWorld, most_events}
 
--- no line tells of a beginning
+-- no line reports a beginning
 begins-untold : (setting : Setting) (lines : List Line) → lines ≡ [] → state_of setting lines ≡ beginning_of setting
 unfolding state_of
 begins-untold setting lines none = ap (state_of setting) none
@@ -47,7 +47,7 @@ module _ (setting : Setting) (parent child : HalfView) (link : LinkView) (sound 
     to_child = record { packets = link_is.none_to_child; framed = tt; room = link_is.child };
   }
 
-  -- the state that the lines of the link tell of is the beginning
+  -- the state that the lines of the link report is the beginning
   begins-so : state_of setting link.lines ≡ beginning_of setting
   begins-so = begins-untold setting link.lines link_is.no_lines
 

@@ -6,7 +6,7 @@ use Rattle.ipdl_base.specs.declared.kinds.Side.TheVariants as sides
 use Rattle.ipdl_base.specs.declared.line.Line.{Line}
 use Rattle.ipdl_base.specs.Lines.{same_side}
 use Rattle.channel_model.specs.Ends.{end_of, link_to}
-use Rattle.channel_model.specs.Numbers.{other}
+use Rattle.ipdl_base.specs.Sides.{other}
 use Rattle.channel_model.specs.Runs.{RunState}
 use Rattle.script_steps.proofs.Choosing.{HaveSides, begin-sides, choice-happens, plays-one, side-of}
 use Rattle.script_steps.proofs.Counting.{step-counted}
@@ -67,7 +67,7 @@ fewer : (setting : Setting) (side : Side) (state next : RunState) → OneMore se
 fewer setting sides.Parent state next h = let a = h.within in let b = h.own in let c = h.rest in omega (arith, a, b, c)
 fewer setting sides.Child state next h = let a = h.within in let b = h.own in let c = h.rest in omega (arith, a, b, c)
 
--- fewer events are left behind a choice
+-- fewer events are left after a choice
 pub chosen-less : (setting : Setting) (state next : RunState) → HaveSides state.world → IsChosen setting state next → suc (left_of setting next) ≤ left_of setting state
 chosen-less setting state next sided c = fewer setting c.choice.side state next (choice-counts setting c.choice state next sided c.is)
 

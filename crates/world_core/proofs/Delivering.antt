@@ -10,14 +10,14 @@ use Rattle.ipdl_base.specs.Plain.{plain_message}
 use Rattle.ipdl_base.specs.Sound.{IsSound}
 use Rattle.value_types.specs.declared.layout.TheConstants.{NEW}
 use Rattle.value_codec.proofs.Cases.{read_again}
-use Rattle.value_codec.specs.declared.decoding.Decoded.TheVariants as decoded
+use Rattle.value_codec.specs.declared.decoding.DecodeResult.TheVariants as decoded
 use Rattle.value_codec.specs.Decoding.{begins}
 use Rattle.value_codec.specs.Laws.{AreBytes}
 use Rattle.value_codec.specs.Spelling.{frame_bytes}
 use Rattle.channel_model.specs.Ends.{End, end_of, link_to}
 use Rattle.channel_model.specs.Ends as model
 use Rattle.channel_model.specs.Events as e
-use Rattle.channel_model.specs.Numbers.{other}
+use Rattle.ipdl_base.specs.Sides.{other}
 use Rattle.channel_model.specs.Outputs.{is_open}
 use Rattle.channel_model.specs.Refusals.{packet_refusal}
 use Rattle.channel_model.specs.Runs.{after_event}
@@ -26,7 +26,7 @@ use Rattle.end_parts.proofs.ReadLemmas.{read-broken, read-message}
 use Rattle.end_parts.specs.declared.packet.Packet.{Packet}
 use Rattle.end_parts.specs.PacketReading.{carried, packet_read}
 use Rattle.channel_core.specs.declared.answers.DeliverAnswer.TheVariants as delivery
-use Rattle.channel_core.specs.Delivered.{answer_to, delivery_answer, told_refusal}
+use Rattle.channel_core.specs.Delivered.{answer_to, delivery_answer, refusal_answer}
 use Rattle.channel_core.specs.EndView.{IsFramed, packet_of, packets_of}
 use Rattle.script_runs.proofs.CaseRuns.{case_worlds_fit}
 use Rattle.script_runs.proofs.Room.{cases_have_room}
@@ -119,8 +119,8 @@ module _ (at : WorldView) (side : Side) (half : HalfView) (link : LinkView) (sta
         let fit : FitsCase at.setting at.state side = case_worlds_fit at.setting stands.run.choices at.state stands.run.sound (omega (arith, small)) stands.run.plays side in
         let none = fit.accepted first_is.carries first_is.rest (ap (λ (end : End). is_open end.state) (sym stands.half_is.end) ∙ opens) first_is.lies in
         ap (answer_to half.end) reads
-        ∙ ap (λ (schema : Schema). told_refusal (packet_refusal schema half.end.end first_is.carries)) schema-is
-        ∙ ap (λ (end : End). told_refusal (packet_refusal at.setting.schema end first_is.carries)) stands.half_is.end ∙ ap told_refusal none
+        ∙ ap (λ (schema : Schema). refusal_answer (packet_refusal schema half.end.end first_is.carries)) schema-is
+        ∙ ap (λ (end : End). refusal_answer (packet_refusal at.setting.schema end first_is.carries)) stands.half_is.end ∙ ap refusal_answer none
 
     -- and its delivery is that of the link
     on-link : (after : HalfView) → IsHalfDelivery half progress_is packet after → IsHalfStep half progress_is (link_to side at.state.world) e.deliver after
@@ -129,7 +129,7 @@ module _ (at : WorldView) (side : Side) (half : HalfView) (link : LinkView) (sta
         record {
           output = d.steps.output;
           is_step = ap (λ (ps : List model.Packet). step half.end.schema half.end.end ps e.deliver) first_is.lies ∙ ap (λ (p : model.Packet). step half.end.schema half.end.end (p ∷ []) e.deliver) same ∙ d.steps.is_step;
-          is_behind = d.steps.is_behind;
+          is_after = d.steps.is_after;
           framed = d.steps.framed;
           same = d.steps.same;
           counted = d.steps.counted;

@@ -57,7 +57,7 @@ act-begins schema e link happened output acts is = by happened acts (step-shows 
 
 -- Lines that leave all handlers as they are: each is an event and no more.
 
--- a handler that runs, by which lines that change handlers are told
+-- a handler that runs, by which the lines that change handlers are known
 abbrev one_running : List HandledRequest
 one_running = record { seq = pos 0; number = 0; block = 0; acts = 0; given = values.Nothing; made = pos 0 } ∷ []
 

@@ -10,15 +10,15 @@ use Rattle.channel_model.specs.Runs.{RunState}
 use Rattle.script_runs.specs.Endings.{EndsAs, ending_line}
 use Rattle.script_runs.specs.Replays.{ArePrinted, Follows, IsStuck, choices_told, printed_lines, told_then}
 use Rattle.script_runs.specs.Told.{choice_told}
-use Rattle.script_runs.proofs.Growth.{BeginsEvent, adds-event, plays-behind}
+use Rattle.script_runs.proofs.Growth.{BeginsEvent, adds-event, plays-following}
 use Rattle.script_runs.proofs.Tells.{line_texts_tell_choices}
 use Rattle.script_runs.proofs.TextChoices.{texts-told}
 use Rattle.script_steps.proofs.Choosing.{choices_are_read}
 use Rattle.script_steps.specs.Choices.{Choice, Setting, beginning_of, chosen, is_delivery_line, played}
 use Rattle.script_steps.specs.Turns.{RunEnding}
-use Rattle.transcript_laws.specs.Printed.{line_texts}
-use Rattle.transcript_laws.specs.Told.{is_effect_text}
-use Rattle.transcript_laws.proofs.Parts.{texts-append}
+use Rattle.transcripts.specs.Printed.{line_texts}
+use Rattle.transcripts.specs.Told.{is_effect_text}
+use Rattle.transcripts.proofs.Parts.{texts-append}
 use Rattle.world_core.specs.declared.world.replay.Replay.TheVariants as replay
 use Rattle.world_core.specs.Replayed.{ArePrintedSoFar, SaysOf}
 use Rattle.world_core.proofs.Trying.{IsTried}
@@ -31,17 +31,17 @@ BeginApart [] others = Unit {0}
 BeginApart (line ∷ lines) [] = Unit {0}
 BeginApart (line ∷ lines) (other ∷ others) = line ≢ other
 
-common-most : (front rest others behind : List (List ℕ)) (more : ℕ) → BeginApart rest others → more ≤ length (front ++ rest) → front ++ others ≡ take more (front ++ rest) ++ behind → more ≤ length front
-common-most [] [] others behind more apart there is = there
-common-most [] (r ∷ rest) others behind zero apart there is = omega arith
-common-most [] (r ∷ rest) [] behind (suc more) apart there is = cc
-common-most [] (r ∷ rest) (o ∷ others) behind (suc more) apart there is = absurd (apart (sym (cons-head is)))
-common-most (x ∷ front) rest others behind zero apart there is = omega arith
-common-most (x ∷ front) rest others behind (suc more) apart there is =
-    let h = common-most front rest others behind more apart (omega (arith, there)) (cons-tail is) in
+common-most : (front rest others following : List (List ℕ)) (more : ℕ) → BeginApart rest others → more ≤ length (front ++ rest) → front ++ others ≡ take more (front ++ rest) ++ following → more ≤ length front
+common-most [] [] others following more apart there is = there
+common-most [] (r ∷ rest) others following zero apart there is = omega arith
+common-most [] (r ∷ rest) [] following (suc more) apart there is = cc
+common-most [] (r ∷ rest) (o ∷ others) following (suc more) apart there is = absurd (apart (sym (cons-head is)))
+common-most (x ∷ front) rest others following zero apart there is = omega arith
+common-most (x ∷ front) rest others following (suc more) apart there is =
+    let h = common-most front rest others following more apart (omega (arith, there)) (cons-tail is) in
     omega (arith, h)
 
-common-ends : (front rest others : List (List ℕ)) (e : List ℕ) (more : ℕ) → BeginApart rest others → (others ≡ [] → (behind : List (List ℕ)) → rest ≡ e ∷ behind → ⊥) → take more (front ++ rest) ≡ (front ++ others) ++ e ∷ [] → ⊥
+common-ends : (front rest others : List (List ℕ)) (e : List ℕ) (more : ℕ) → BeginApart rest others → (others ≡ [] → (following : List (List ℕ)) → rest ≡ e ∷ following → ⊥) → take more (front ++ rest) ≡ (front ++ others) ++ e ∷ [] → ⊥
 common-ends [] [] [] e zero apart none is = cc
 common-ends [] [] [] e (suc more) apart none is = cc
 common-ends [] [] (o ∷ others) e zero apart none is = cc
@@ -55,7 +55,7 @@ common-ends (x ∷ front) rest others e (suc more) apart none is = common-ends f
 
 -- How far lines and what a run prints go together
 
--- So many first lines are those of both, and behind them the two do not begin alike, nor does the run end as the lines say.
+-- This number of first lines are those of both; after them the two do not begin alike, and the run does not end as the lines report.
 pub record HaveCommon (setting : Setting) (lines : List (List ℕ)) (last : RunState) (count : ℕ) : Type 0 where
   pub front : List (List ℕ)
   pub rest : List (List ℕ)
@@ -64,7 +64,7 @@ pub record HaveCommon (setting : Setting) (lines : List (List ℕ)) (last : RunS
   pub lines_are : lines ≡ front ++ rest
   pub printed_are : printed_lines setting last ≡ front ++ others
   pub apart : BeginApart rest others
-  pub no_end : (ending : RunEnding) → EndsAs setting last ending → others ≡ [] → (behind : List (List ℕ)) → rest ≡ ending_line ending ∷ behind → ⊥
+  pub no_end : (ending : RunEnding) → EndsAs setting last ending → others ≡ [] → (following : List (List ℕ)) → rest ≡ ending_line ending ∷ following → ⊥
 
 printed-so-far : (setting : Setting) (lines : List (List ℕ)) (last : RunState) (count : ℕ) → HaveCommon setting lines last count → ArePrintedSoFar setting lines last count
 printed-so-far setting lines last count c =
@@ -87,7 +87,7 @@ printed-so-far setting lines last count c =
         absurd (common-ends c.front c.rest c.others (ending_line h.0) more c.apart (c.no_end h.0 h.1)
         (ap (take more) (sym c.lines_are) ∙ h.2 ∙ ap (λ ls. ls ++ ending_line h.0 ∷ []) c.printed_are))
 
-pub says-short : (setting : Setting) (lines : List (List ℕ)) (last : RunState) (count : ℕ) (c : HaveCommon setting lines last count) → c.rest ≡ [] → SaysOf setting lines last (replay.Short count)
+pub says-short : (setting : Setting) (lines : List (List ℕ)) (last : RunState) (count : ℕ) (c : HaveCommon setting lines last count) → c.rest ≡ [] → SaysOf setting lines last (replay.Incomplete count)
 says-short setting lines last count c none =
     let size = c.count_is in
     let left : length c.rest ≡ 0 = ap length none in
@@ -100,22 +100,22 @@ says-short setting lines last count c none =
           omega (arith, all, left, long, printed),
     )
 
-pub says-apart : (setting : Setting) (lines : List (List ℕ)) (last : RunState) (count : ℕ) (c : HaveCommon setting lines last count) (line : List ℕ) (behind : List (List ℕ)) → c.rest ≡ line ∷ behind → SaysOf setting lines last (replay.Apart count)
-says-apart setting lines last count c line behind some =
+pub says-apart : (setting : Setting) (lines : List (List ℕ)) (last : RunState) (count : ℕ) (c : HaveCommon setting lines last count) (line : List ℕ) (following : List (List ℕ)) → c.rest ≡ line ∷ following → SaysOf setting lines last (replay.Diverged count)
+says-apart setting lines last count c line following some =
     let size = c.count_is in
-    let left : length c.rest ≡ suc (length behind) = ap length some in
+    let left : length c.rest ≡ suc (length following) = ap length some in
     let long : length lines ≡ length c.front + length c.rest = ap length c.lines_are ∙ length-append c.front c.rest in
     (printed-so-far setting lines last count c, omega (arith, size, left, long))
 
--- more stands behind all that a run prints
-pub says-longer : (setting : Setting) (lines : List (List ℕ)) (last : RunState) (ending : RunEnding) (line : List ℕ) (behind : List (List ℕ)) (count : ℕ) → EndsAs setting last ending
-    → lines ≡ (printed_lines setting last ++ ending_line ending ∷ []) ++ line ∷ behind → count ≡ length (printed_lines setting last) + 1 → SaysOf setting lines last (replay.Apart count)
-says-longer setting lines last ending line behind count ends is size =
+-- lines follow all that a run prints
+pub says-longer : (setting : Setting) (lines : List (List ℕ)) (last : RunState) (ending : RunEnding) (line : List ℕ) (following : List (List ℕ)) (count : ℕ) → EndsAs setting last ending
+    → lines ≡ (printed_lines setting last ++ ending_line ending ∷ []) ++ line ∷ following → count ≡ length (printed_lines setting last) + 1 → SaysOf setting lines last (replay.Diverged count)
+says-longer setting lines last ending line following count ends is size =
     let whole : List (List ℕ) = printed_lines setting last ++ ending_line ending ∷ [] in
     let whole_long : length whole ≡ length (printed_lines setting last) + 1 = length-append (printed_lines setting last) (ending_line ending ∷ []) in
-    let long : length lines ≡ length whole + length (line ∷ behind) = ap length is ∙ length-append whole (line ∷ behind) in
+    let long : length lines ≡ length whole + length (line ∷ following) = ap length is ∙ length-append whole (line ∷ following) in
     let same : count ≡ length whole = size ∙ sym whole_long in
-    let taken : take count lines ≡ whole = ap (λ n. take n lines) same ∙ ap (take (length whole)) is ∙ take-append_seam whole (line ∷ behind) in (
+    let taken : take count lines ≡ whole = ap (λ n. take n lines) same ∙ ap (take (length whole)) is ∙ take-append_seam whole (line ∷ following) in (
       record { there = omega (arith, size, whole_long, long); first = inr (ending, ends, taken); most = by },
       omega (arith, size, whole_long, long),
     )
@@ -130,7 +130,7 @@ says-longer setting lines last ending line behind count ends is size =
         let k = length-take-le more lines there in
         omega (arith, n, k, size)
 
--- Choices that are told, and made as far as they are possible
+-- Choices that lines report, made as far as they are possible
 
 record FollowsOn (setting : Setting) (told done : List Choice) (state : RunState) : Type 0 where
   more : List Choice
@@ -148,7 +148,7 @@ follow-step : (setting : Setting) (told done rest : List Choice) (choice : Choic
 follow-step setting told done rest choice state is plays on None none =
     follow-stop setting told done state plays (inr (record { first = done; choice = choice; rest = rest; told_are = is; state = state; plays = plays; impossible = none; others = []; done_are = refl }))
 follow-step setting told done rest choice state is plays on (Some next) goes =
-    let f = on next (is ∙ sym (append_assoc done (choice ∷ []) rest)) (plays-behind setting done (choice ∷ []) (beginning_of setting) state next plays (ap (option_and_then (played setting [])) goes)) in
+    let f = on next (is ∙ sym (append_assoc done (choice ∷ []) rest)) (plays-following setting done (choice ∷ []) (beginning_of setting) state next plays (ap (option_and_then (played setting [])) goes)) in
     record {
       more = choice ∷ f.more;
       last = f.last;
@@ -162,23 +162,23 @@ follow-rest setting told done [] state is plays = follow-stop setting told done 
 follow-rest setting told done (choice ∷ rest) state is plays =
     follow-step setting told done rest choice state is plays (λ next so goes. follow-rest setting told (done ++ choice ∷ []) rest next so goes) (chosen setting choice state) refl
 
--- A run that follows lines comes from a state, with lines behind that begin with an event.
+-- A run that follows lines comes from a state, with lines after it that begin with an event.
 pub record LeadsOn (setting : Setting) (lines : List (List ℕ)) (state : RunState) : Type 0 where
   pub last : RunState
   pub follows : Follows setting lines last
   pub added : List Line
-  pub behind : last.lines ≡ state.lines ++ added
+  pub following : last.lines ≡ state.lines ++ added
   pub begins : BeginsEvent added
 
 leads-on : (setting : Setting) (lines : List (List ℕ)) (done : List Choice) (state : RunState) → FollowsOn setting (choices_told lines) done state → LeadsOn setting lines state
 leads-on setting lines done state f =
     let added = adds-event setting f.more state f.last f.goes in
-    record { last = f.last; follows = record { done = done ++ f.more; plays = f.plays; so_far = f.so_far }; added = added.0; behind = added.1; begins = added.2 }
+    record { last = f.last; follows = record { done = done ++ f.more; plays = f.plays; so_far = f.so_far }; added = added.0; following = added.1; begins = added.2 }
 
-pub printed-behind : (setting : Setting) (state last : RunState) (added : List Line) → last.lines ≡ state.lines ++ added → printed_lines setting last ≡ printed_lines setting state ++ line_texts setting.schema state.lines added
-printed-behind setting state last added is = ap (line_texts setting.schema []) is ∙ texts-append setting.schema [] state.lines added
+pub printed-following : (setting : Setting) (state last : RunState) (added : List Line) → last.lines ≡ state.lines ++ added → printed_lines setting last ≡ printed_lines setting state ++ line_texts setting.schema state.lines added
+printed-following setting state last added is = ap (line_texts setting.schema []) is ∙ texts-append setting.schema [] state.lines added
 
--- what lines tell that begin with what a run prints
+-- what lines report that begin with what a run prints
 pub told-seen : (setting : Setting) (leading : List Choice) (state : RunState) (rest : List (List ℕ)) → played setting leading (beginning_of setting) ≡ Some state → choices_told (printed_lines setting state ++ rest) ≡ leading ++ choices_told rest
 told-seen setting leading state rest plays = texts-told setting.schema [] state.lines rest ∙ ap (λ cs. cs ++ choices_told rest) (choices_are_read setting leading state plays)
 
@@ -200,7 +200,7 @@ module _ (setting : Setting) (leading : List Choice) (state : RunState) (plays :
       told = told-seen setting leading state (line ∷ rest) plays ∙ ap (λ cs. leading ++ cs) (told-first line rest choice tells)
 
       made : (other : Choice) → chosen setting other state ≡ Some next → played setting (leading ++ other ∷ []) (beginning_of setting) ≡ Some next
-      made other goes = plays-behind setting leading (other ∷ []) (beginning_of setting) state next plays (ap (option_and_then (played setting [])) goes)
+      made other goes = plays-following setting leading (other ∷ []) (beginning_of setting) state next plays (ap (option_and_then (played setting [])) goes)
 
       by : IsTried setting choice state next → LeadsOn setting (printed_lines setting state ++ line ∷ rest) next
       by (inl goes) =
@@ -215,7 +215,7 @@ module _ (setting : Setting) (leading : List Choice) (state : RunState) (plays :
               inr (record { first = leading; choice = choice; rest = choices_told rest; told_are = told; state = state; plays = plays; impossible = h.0; others = h.1.0 ∷ []; done_are = refl });
         };
         added = [];
-        behind = sym (append-nil next.lines);
+        following = sym (append-nil next.lines);
         begins = tt;
       }
 
@@ -239,11 +239,11 @@ module _ (setting : Setting) (leading : List Choice) (state : RunState) (plays :
         });
   }
 
-  -- lines behind what is printed that tell no choice
+  -- lines after what is printed that report no choice
   pub all-follows : (rest : List (List ℕ)) → choices_told rest ≡ [] → Follows setting (printed_lines setting state ++ rest) state
   all-follows rest none = record { done = leading; plays = plays; so_far = inl (told-seen setting leading state rest plays ∙ ap (λ cs. leading ++ cs) none ∙ append-nil leading) }
 
-  -- the text of no event: what a run prints behind is another line
+  -- the text of no event: what a run prints next is another line
   pub effect-leads : (line : List ℕ) (rest : List (List ℕ)) → LeadsOn setting (printed_lines setting state ++ line ∷ rest) state
   effect-leads line rest =
       leads-on setting (printed_lines setting state ++ line ∷ rest) leading state

@@ -21,7 +21,7 @@ use Rattle.world_core.specs.CountsView.{CountsView, RunningView}
 use Rattle.world_core.specs.HalfView.{HalfView, IsCountedBy, whats_of}
 use Rattle.world_core.specs.Resolvers.{resolver_of}
 use Rattle.world_core.proofs.CountsLemmas.{event-counted}
-use Rattle.world_core.proofs.Held.{held-behind}
+use Rattle.world_core.proofs.Held.{held-following}
 use Rattle.world_core.proofs.EventLines.{act-begins, is_acting}
 use Rattle.world_core.proofs.StepProgress.{Begins, Makes, act-makes, delivery-makes, step-makes}
 
@@ -31,12 +31,12 @@ pub stepped : (link : List Packet) (before after : HalfView) (progress next : Pr
     → map (λ r. r.resolver) after.counts.running ≡ map resolver_of (dispatches_after before.end.schema before.end.end happened) → IsHalfStep before progress link happened after
 stepped link before after progress next happened is same makes counted held =
     let prints = step-prints before.end.schema before.end.end link happened is.output is.is_step in
-    let side : before.end.end.side ≡ after.end.end.side = sym (ap (λ (v : EndView). v.end.side) is.is_behind ∙ prints.side) in
+    let side : before.end.end.side ≡ after.end.end.side = sym (ap (λ (v : EndView). v.end.side) is.is_after ∙ prints.side) in
     let script : before.script ≡ after.script = sym (ap (λ (h : HalfView). h.script) same) in
     record {
       output = is.output;
       is_step = is.is_step;
-      is_behind = is.is_behind;
+      is_after = is.is_after;
       framed = is.framed;
       same = same;
       counted = record {
@@ -44,7 +44,7 @@ stepped link before after progress next happened is same makes counted held =
             subst (λ s. AreCountsOf s after.end.end.side (after_lines progress (whats_of is.output.lines)) after.counts) script
             (subst (λ (at : Side). AreCountsOf before.script at (after_lines progress (whats_of is.output.lines)) after.counts) side
             (subst (λ (p : Progress). AreCountsOf before.script before.end.end.side p after.counts) (sym makes) counted));
-        held = held-behind before.end after.end link happened after.counts.running is held;
+        held = held-following before.end after.end link happened after.counts.running is held;
       };
     }
 
@@ -82,7 +82,7 @@ pub delivery-gives : (before after : HalfView) (progress : Progress) (packet : C
 delivery-gives before after progress packet counted is same counts =
     record { carries = is.carries; is_read = is.is_read; steps = delivered-step (is.carries ∷ []) before after progress counted is.is_step same counts }
 
--- no act leaves the progress behind a take
+-- no act leaves the progress after a take
 pub act-quiet : (p : Progress) → (one_act p.handled (one_event p)).takes ≡ false
 act-quiet p = by p.handled where
   by : (hs : _) → (one_act hs (one_event p)).takes ≡ false

@@ -1,4 +1,4 @@
--- The resolvers that running requests hold behind a step are those of the dispatches that it leaves.
+-- The resolvers that running requests have after a step are those of the dispatches that it leaves.
 use Rattle.std.proofs.Common.{◌≡◌, ℕ, ℤ, Bool, true, false, if◌then◌else◌, List, [], ◌∷◌, drop, map, Option, Some, None, refl, sym, ap, subst, ◌∙◌}
 use Rattle.std.specs.Option.{option_map_or}
 use Rattle.ipdl_base.specs.declared.kinds.SendRefusal.{SendRefusal}
@@ -21,11 +21,11 @@ use Rattle.world_core.specs.Resolvers.{AreApart, HoldResolvers, resolver_of, res
 abbrev resolvers : List RunningView → List (Option Resolver)
 resolvers running = map (λ r. r.resolver) running
 
--- Behind a step running requests hold the resolvers of their dispatches, where they are those that the step leaves.
-pub held-behind : (before after : EndView) (link : List Packet) (happened : Event) (running : List RunningView) → IsStepBy before link happened after
+-- After a step, running requests have the resolvers of their dispatches, if the step leaves these.
+pub held-following : (before after : EndView) (link : List Packet) (happened : Event) (running : List RunningView) → IsStepBy before link happened after
     → map (λ r. r.resolver) running ≡ map resolver_of (dispatches_after before.schema before.end happened) → HoldResolvers running after.end
-held-behind before after link happened running is h =
-    h ∙ ap (map resolver_of) (sym (ap (λ (v : EndView). dispatches v.end.stack) is.is_behind ∙ steps_change_dispatches before.schema before.end link happened is.output is.is_step))
+held-following before after link happened running is h =
+    h ∙ ap (map resolver_of) (sym (ap (λ (v : EndView). dispatches v.end.stack) is.is_after ∙ steps_change_dispatches before.schema before.end link happened is.output is.is_step))
 
 -- an act leaves all resolvers
 act-leaves : (running : List RunningView) (c : CountsView) → c.running ≡ running → resolvers (with_act_of running c).running ≡ resolvers running

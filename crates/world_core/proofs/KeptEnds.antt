@@ -1,4 +1,4 @@
--- What an end keeps that goes on by itself by a valid script: whatever comes to it, each next step and each delivery is
+-- What an end keeps that runs by itself by a valid script: whatever comes to it, each next step and each delivery is
 -- possible, and is one event more; and it has few lines for its events.
 use Rattle.std.proofs.Common.{◌≡◌, ℕ, ℤ, ◌+◌, ◌*◌, ◌<◌, ◌≤◌, nat_lt, true, false, cond, if◌then◌else◌, List, [], ◌∷◌, ◌++◌, length, Some, None, is_some, refl, sym, ap, subst, ◌∙◌, arith}
 use Rattle.std.specs.List.{AllZip}
@@ -45,7 +45,7 @@ use Rattle.alone_laws.specs.AloneRuns.{RunsAlone}
 use Rattle.alone_laws.specs.AloneRuns as alone
 use Rattle.alone_laws.specs.KeptAlone.{KeepsAlone}
 use Rattle.alone_laws.proofs.AloneRuns.{runs-keep}
-use Rattle.feed_runs.proofs.FeedRuns.{provided-some}
+use Rattle.relay_runs.proofs.HalfRuns.{provided-some}
 
 pub fewer : (n limit : ℕ) → nat_lt n limit ≡ true → n < limit
 fewer n limit h = (Decides-ltb n limit).0 h

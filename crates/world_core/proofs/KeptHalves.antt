@@ -13,8 +13,8 @@ use Rattle.ipdl_base.specs.Sound.{IsSound}
 use Rattle.value_types.specs.declared.layout.TheConstants.{NEW}
 use Rattle.value_types.specs.Fits.{Fits}
 use Rattle.value_codec.proofs.Framed.{IsTold, begins_told}
-use Rattle.value_codec.specs.declared.decoding.Decoded.{Decoded}
-use Rattle.value_codec.specs.declared.decoding.Decoded.TheVariants as decoded
+use Rattle.value_codec.specs.declared.decoding.DecodeResult.{DecodeResult}
+use Rattle.value_codec.specs.declared.decoding.DecodeResult.TheVariants as decoded
 use Rattle.value_codec.specs.Decoding.{FrameBegins, begins}
 use Rattle.value_codec.specs.Laws.{AreBytes}
 use Rattle.channel_model.specs.Bounds.{unsettled}
@@ -33,7 +33,7 @@ use Rattle.end_parts.specs.declared.packet.Packet.TheVariants.{Bytes, Broken}
 use Rattle.end_parts.specs.PacketReading.{PacketContent, carried, content_decoded, faulty, packet_read}
 use Rattle.channel_core.specs.declared.answers.DeliverAnswer.{DeliverAnswer}
 use Rattle.channel_core.specs.declared.answers.DeliverAnswer.TheVariants as delivery
-use Rattle.channel_core.specs.Delivered.{answer_to, delivery_answer, told_refusal}
+use Rattle.channel_core.specs.Delivered.{answer_to, delivery_answer, refusal_answer}
 use Rattle.channel_core.specs.EndView.{EndView, IsFramed, packet_of, packets_of}
 use Rattle.script_runs.proofs.Changes.{end-apart}
 use Rattle.script_runs.specs.Allowed.{IsAllowed}
@@ -43,10 +43,11 @@ use Rattle.script_steps.proofs.StepLines.{Prints, step-prints}
 use Rattle.script_steps.specs.Choices.{Setting, beginning_of}
 use Rattle.script_steps.specs.NextEvent.{next_event}
 use Rattle.script_steps.specs.Progress.{Progress, progress_of}
-use Rattle.relay_runs.specs.HalfRuns.{HalfRun, HalfState, behind, behind_packet, delivered_for, is_within, opening_half, own_event}
+use Rattle.relay_runs.specs.HalfRuns.{HalfRun, HalfState, after, after_next, after_own, after_packet, delivered_for, is_within, opening_half, own_event}
 use Rattle.relay_runs.specs.HalfRuns as half_run
+use Rattle.relay_runs.proofs.HalfRuns.{delivered-itself, delivered-mark, delivered-taken}
 use Rattle.world_core.proofs.Delivering.{framed-read}
-use Rattle.world_core.proofs.KeptEnds.{KeepsEnd, begins-kept, delivery-keeps, fewer, grown, kept, known, own-allowed, own-keeps, stands}
+use Rattle.world_core.proofs.KeptEnds.{KeepsEnd, begins-kept, delivery-keeps, delivery-possible, fewer, grown, kept, known, own-allowed, own-keeps, own-possible, stands}
 use Rattle.world_core.proofs.Played.{own-progress}
 use Rattle.world_core.specs.declared.answers.AcceptAnswer.{AcceptAnswer}
 use Rattle.world_core.specs.declared.answers.AcceptAnswer.TheVariants as accept
@@ -60,28 +61,53 @@ use Rattle.world_core.specs.Worlds.{IsHalfOf, IsRun, most_events}
 use Rattle.world_core.specs.Resolvers.{AreApart}
 use Rattle.world_core.specs.Relaying.{AcceptGives, ContentGives, DeliversFor, GoesApart, GoingGives, HasAccepted, HasHandedOut, HasLineRoom, HasTakenOver, InEach, IsApart, PutGives, came_by, is_refused, own_progress}
 
--- What is delivered of a packet that comes fits the schema, and is not refused
-
-given-fits : (schema : Schema) (packet : model.Packet) (refusal : Option DeliveryRefusal) → FitsPacket schema packet → FitsPacket schema (option_map_or (λ r. model.mark) refusal packet)
-given-fits schema packet None fits = fits
-given-fits schema packet (Some r) fits = tt
-
-given-accepted : (schema : Schema) (e : End) (packet : model.Packet) (refusal : Option DeliveryRefusal) → packet_refusal schema e packet ≡ refusal → packet_refusal schema e (option_map_or (λ r. model.mark) refusal packet) ≡ None
-given-accepted schema e packet None is = is
-given-accepted schema e packet (Some r) is = refl
-
--- a state of a half run keeps what an end does that goes on by itself
+-- a state of a half run keeps what an end keeps that runs by itself
 pub run-keeps : (setting : Setting) (side : Side) → IsSound setting.schema → IsValid setting.schema setting.script → setting.limit < 268435456 → (state : HalfState) → HalfRun setting side state → KeepsEnd setting side state.end state.lines state.delivered
 run-keeps setting side sound valid limit _ half_run.begins = begins-kept setting side sound valid limit
 run-keeps setting side sound valid limit _ (half_run.acts state own output run within is_own is) =
     own-keeps setting side sound valid limit state.end state.lines state.delivered (run-keeps setting side sound valid limit state run) own output is_own is (fewer (progress_of side state.lines).events setting.limit within)
 run-keeps setting side sound valid limit _ (half_run.gets state packet output run within rests opened fits is) =
-    let refusal : Option DeliveryRefusal = packet_refusal setting.schema state.end packet in
+    let given = delivered-taken setting.schema state.end packet fits in
     delivery-keeps setting side sound valid limit state.end state.lines state.delivered (run-keeps setting side sound valid limit state run) (delivered_for setting.schema state.end packet) output
-    (given-fits setting.schema packet refusal fits) (given-accepted setting.schema state.end packet refusal refl) is (fewer (progress_of side state.lines).events setting.limit within)
+    given.0 given.1 is (fewer (progress_of side state.lines).events setting.limit within)
+
+-- Each step of a half run is one event more
+
+-- A half has come to another by one event more, which it might have.
+pub record IsOneMore (setting : Setting) (side : Side) (half next : HalfState) : Type 0 where
+  pub few : (progress_of side half.lines).events < setting.limit
+  pub more : (progress_of side next.lines).events ≡ (progress_of side half.lines).events + 1
+
+module _ (setting : Setting) (side : Side) (sound : IsSound setting.schema) (valid : IsValid setting.schema setting.script) (limit : setting.limit < 268435456) where
+  module _ (half : HalfState) (run : HalfRun setting side half) (within : is_within setting side half ≡ true) where
+    run-kept : KeepsEnd setting side half.end half.lines half.delivered
+    run-kept = run-keeps setting side sound valid limit half run
+
+    might-have : (progress_of side half.lines).events < setting.limit
+    might-have = fewer (progress_of side half.lines).events setting.limit within
+
+    run-grows : (happened : Event) (link : List model.Packet) (output : Output) → step setting.schema half.end link happened ≡ Some output → (progress_of side (half.lines ++ output.lines)).events ≡ (progress_of side half.lines).events + 1
+    run-grows happened link output is =
+        grown setting side sound valid limit half.end half.lines half.delivered run-kept happened link output is (step-prints setting.schema half.end link happened output is)
+
+    own-made : (x : Event) (made : Option Output) → step setting.schema half.end [] x ≡ made → is_some made ≡ true → IsOneMore setting side half (option_map_or (after half) made half)
+    own-made x None is h = cc
+    own-made x (Some output) is h = record { few = might-have; more = run-grows x [] output is }
+
+    pub own-more : (x : Event) → own_event setting side half ≡ Some x → IsOneMore setting side half (after_own setting half x)
+    own-more x next = own-made x (step setting.schema half.end [] x) refl (own-possible setting side sound valid limit half.end half.lines half.delivered run-kept x next)
+
+    next-made : (packet given : model.Packet) (made : Option Output) → step setting.schema half.end (given ∷ []) event.deliver ≡ made → is_some made ≡ true → IsOneMore setting side half (option_map_or (after_packet half packet given) made half)
+    next-made packet given None is h = cc
+    next-made packet given (Some output) is h = record { few = might-have; more = run-grows event.deliver (given ∷ []) output is }
+
+    pub next-more : (packet : model.Packet) → is_open half.end.state ≡ true → IsOneMore setting side half (after_next setting half packet)
+    next-more packet opened =
+        let given : model.Packet = delivered_for setting.schema half.end packet in
+        next-made packet given (step setting.schema half.end (given ∷ []) event.deliver) refl (delivery-possible setting side sound valid limit half.end half.lines half.delivered run-kept given opened)
 
 -- what bytes carry fits the schema
-decoded-fits : (schema : Schema) (bytes : List ℕ) (size : ℕ) → AreBytes bytes → (d : Decoded) → begins NEW schema bytes ≡ d → FitsPacket schema (came_by (content_decoded size d))
+decoded-fits : (schema : Schema) (bytes : List ℕ) (size : ℕ) → AreBytes bytes → (d : DecodeResult) → begins NEW schema bytes ≡ d → FitsPacket schema (came_by (content_decoded size d))
 decoded-fits schema bytes size are (decoded.Frame m n) is =
     let told : FrameBegins NEW schema bytes m n = subst (IsTold NEW schema bytes are) is (begins_told NEW schema bytes are) in
     by (n == size) told.frame.fits
@@ -126,7 +152,7 @@ module _ (setting : Setting) (side : Side) (state : HalfState) (handed : List mo
   pub progress-is : own_progress half ≡ progress
   progress-is = ap (λ (s : Side). progress_of s half.history) side-is ∙ ap (progress_of side) goes.history
 
-  -- What is known where it goes on
+  -- What is known where it makes a step
 
   abbrev MayGoOnAt : Schema → End → Type 0
   MayGoOnAt schema e = (x : Event) → next_event setting.script setting.stop e progress ≡ Some x → IsAllowed schema e x
@@ -204,18 +230,18 @@ module _ (setting : Setting) (side : Side) (state : HalfState) (handed : List mo
         sym (ap (λ (schema : Schema). step schema half.end.end link happened) schema-is ∙ ap (λ (e : End). step setting.schema e link happened) goes.end) ∙ steps.is_step
 
     said : between.end.lines ≡ steps.output.lines
-    said = ap (λ (v : EndView). v.lines) steps.is_behind ∙ ap (λ (ls : List Line). ls ++ steps.output.lines) goes.no_lines
+    said = ap (λ (v : EndView). v.lines) steps.is_after ∙ ap (λ (ls : List Line). ls ++ steps.output.lines) goes.no_lines
 
     packets-are : between.end.packets ≡ packets_of setting.schema (goes.held ++ steps.output.packets)
     packets-are =
-        ap (λ (v : EndView). v.packets) steps.is_behind
+        ap (λ (v : EndView). v.packets) steps.is_after
         ∙ ap (λ (ps : List Packet). ps ++ packets_of half.end.schema steps.output.packets) goes.packets
         ∙ ap (λ (schema : Schema). packets_of setting.schema goes.held ++ packets_of schema steps.output.packets) schema-is
         ∙ sym (map-append (packet_of setting.schema) goes.held steps.output.packets)
 
     about-is : setting_of between ≡ setting
     about-is =
-        ap setting_of steps.same ∙ ap (λ (schema : Schema). record { schema = schema; script = half.script; stop = half.stop; limit = half.limit }) (ap (λ (v : EndView). v.schema) steps.is_behind) ∙ goes.about
+        ap setting_of steps.same ∙ ap (λ (schema : Schema). record { schema = schema; script = half.script; stop = half.stop; limit = half.limit }) (ap (λ (v : EndView). v.schema) steps.is_after) ∙ goes.about
 
     pub history-is : between.history ≡ state.lines
     history-is = ap (λ (h : HalfView). h.history) steps.same ∙ goes.history
@@ -226,7 +252,7 @@ module _ (setting : Setting) (side : Side) (state : HalfState) (handed : List mo
         let are : steps.output.lines ≡ map (line_at side) (prints.first ∷ prints.rest) = prints.lines ∙ ap (λ (s : Side). map (line_at s) (prints.first ∷ prints.rest)) state-side in
         subst (λ (p : Progress). IsCountedBy between p) (sym (own-progress side state.lines steps.output.lines (prints.first ∷ prints.rest) are)) steps.counted
 
-    -- the half has the lines of the step and goes on, as packets came and were delivered
+    -- the half has the lines of the step and still runs by itself, as packets came and were delivered
     module _ (half' : HalfView) (over : HasTakenOver between half') (came delivered : List model.Packet) where
       abbrev next : HalfState
       next = record { end = steps.output.end; lines = state.lines ++ steps.output.lines; came = came; delivered = delivered; sent = state.sent ++ steps.output.packets }
@@ -244,7 +270,7 @@ module _ (setting : Setting) (side : Side) (state : HalfState) (handed : List mo
             small = goes.small;
             about = about-is;
             runs = runs;
-            end = ap (λ (v : EndView). v.end) steps.is_behind;
+            end = ap (λ (v : EndView). v.end) steps.is_after;
             counted = record { counts = counted.counts; held = counted.held };
             history = history;
             no_lines = refl;
@@ -323,15 +349,12 @@ module _ (setting : Setting) (side : Side) (state : HalfState) (handed : List mo
   refused-is : (content : PacketContent) → is_refused half.end.schema half.end.end content ≡ is_refused setting.schema state.end content
   refused-is content = ap (λ (schema : Schema). is_refused schema half.end.end content) schema-is ∙ ap (λ (e : End). is_refused setting.schema e content) goes.end
 
-  given-as : (came : model.Packet) (r : Option DeliveryRefusal) → packet_refusal setting.schema state.end came ≡ r → delivered_for setting.schema state.end came ≡ option_map_or (λ (x : DeliveryRefusal). model.mark) r came
-  given-as came r is = ap (λ (x : Option DeliveryRefusal). option_map_or (λ (y : DeliveryRefusal). model.mark) x came) is
-
   -- what is delivered, where the end refuses the packet and where it does not
   accepted : (content : PacketContent) → is_refused setting.schema state.end content ≡ false → came_by content ≡ delivered_for setting.schema state.end (came_by content)
   accepted (carried p) not_refused = by (packet_refusal setting.schema state.end p) refl not_refused
     where
       by : (r : Option DeliveryRefusal) → packet_refusal setting.schema state.end p ≡ r → is_some r ≡ false → p ≡ delivered_for setting.schema state.end p
-      by None is h = sym (given-as p None is)
+      by None is h = sym (delivered-itself setting.schema state.end p is)
       by (Some r) is h = cc
   accepted (faulty offset rule) not_refused = cc
 
@@ -340,7 +363,7 @@ module _ (setting : Setting) (side : Side) (state : HalfState) (handed : List mo
     where
       by : (r : Option DeliveryRefusal) → packet_refusal setting.schema state.end p ≡ r → is_some r ≡ true → model.mark ≡ delivered_for setting.schema state.end p
       by None is h = cc
-      by (Some r) is h = sym (given-as p (Some r) is)
+      by (Some r) is h = sym (delivered-mark setting.schema state.end p r is)
   refused (faulty offset rule) is_so = refl
 
   module _ (content : PacketContent) (fits : FitsPacket setting.schema (came_by content)) (opened : is_open state.end.state ≡ true) (within : is_within setting side state ≡ true) where
@@ -355,9 +378,9 @@ module _ (setting : Setting) (side : Side) (state : HalfState) (handed : List mo
 
     given-keeps : (between : HalfView) (steps : IsHalfStep half progress (given ∷ []) event.deliver between) → KeepsEnd setting side steps.output.end (state.lines ++ steps.output.lines) (state.delivered ++ given ∷ [])
     given-keeps between steps =
-        let refusal : Option DeliveryRefusal = packet_refusal setting.schema state.end came in
+        let taken = delivered-taken setting.schema state.end came fits in
         delivery-keeps setting side goes.sound goes.valid few-events state.end state.lines state.delivered keeps given steps.output
-        (given-fits setting.schema came refusal fits) (given-accepted setting.schema state.end came refusal refl) (made event.deliver (given ∷ []) between steps) (fewer progress.events setting.limit within)
+        taken.0 taken.1 (made event.deliver (given ∷ []) between steps) (fewer progress.events setting.limit within)
 
     given-room : HasLineRoom half → (between : HalfView) → IsHalfStep half progress (given ∷ []) event.deliver between → length between.end.lines ≤ between.spare
     given-room room between steps = room-for event.deliver (given ∷ []) between steps room (state.delivered ++ given ∷ []) (given-keeps between steps)
@@ -467,7 +490,7 @@ roomy-apart half half' same is = record { setting = is.setting; side = is.side; 
 pub roomy-each : (half half' : HalfView) → half' ≡ record half { spare = half'.spare } → InEach half (λ setting side state handed. GoesApart setting side state handed half')
 roomy-each half half' same setting side state handed goes = goes-roomy setting side state handed half goes half' same
 
--- what holds in each state behind more room holds in each state
+-- what holds in each state with more room holds in each state
 pub roomy-gives : (Holds : Setting → Side → HalfState → List model.Packet → Type 0) (half half' : HalfView) → half' ≡ record half { spare = half'.spare } → InEach half' Holds → InEach half Holds
 roomy-gives Holds half half' same holds setting side state handed goes = holds setting side state handed (goes-roomy setting side state handed half goes half' same)
 
@@ -538,7 +561,7 @@ offered-as : (seen : EndView) (packet : Packet) → delivery_answer seen packet 
 unfolding delivery_answer
 offered-as seen packet = refl
 
-told-none : (r : Option DeliveryRefusal) → told_refusal r ≡ delivery.Done → is_some r ≡ false
+told-none : (r : Option DeliveryRefusal) → refusal_answer r ≡ delivery.Done → is_some r ≡ false
 told-none None is = refl
 told-none (Some wrong_direction) is = cc
 told-none (Some wrong_number) is = cc
@@ -546,7 +569,7 @@ told-none (Some wrong_new_id) is = cc
 told-none (Some (stray seq)) is = cc
 told-none (Some (wrong_actor id number)) is = cc
 
-told-some : (r : Option DeliveryRefusal) (a : DeliverAnswer) → (a ≡ delivery.Done → ⊥) → told_refusal r ≡ a → is_some r ≡ true
+told-some : (r : Option DeliveryRefusal) (a : DeliverAnswer) → (a ≡ delivery.Done → ⊥) → refusal_answer r ≡ a → is_some r ≡ true
 told-some None a isnt is = absurd (isnt (sym is))
 told-some (Some r) a isnt is = refl
 

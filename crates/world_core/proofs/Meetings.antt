@@ -9,7 +9,7 @@ use Rattle.ipdl_base.specs.declared.line.Line.{Line}
 use Rattle.ipdl_base.specs.declared.line.What.{What}
 use Rattle.channel_model.specs.Ends.{End, end_of, link_to}
 use Rattle.channel_model.specs.Ends as model
-use Rattle.channel_model.specs.Numbers.{other}
+use Rattle.ipdl_base.specs.Sides.{other}
 use Rattle.channel_model.specs.Outputs.{is_open}
 use Rattle.channel_model.specs.Runs.{RunState}
 use Rattle.channel_core.specs.EndView.{IsFramed, packet_of, packets_of}
@@ -31,15 +31,15 @@ use Rattle.world_core.proofs.WorldTurns.{told-state}
 use Rattle.world_core.specs.declared.answers.StepAnswer.{StepAnswer}
 use Rattle.world_core.specs.declared.answers.StepAnswer.TheVariants as answer
 use Rattle.world_core.specs.HalfView.{HalfView, IsCountedBy, appended}
-use Rattle.world_core.specs.Halves.{DeliveriesEnd, Delivers, FitsBehind, HasMet, IsEmptied, IsHome, deliveries_to, is_waited_for, own_choices}
+use Rattle.world_core.specs.Halves.{DeliveriesEnd, Delivers, FitsAfter, HasMet, IsEmptied, IsHome, deliveries_to, is_waited_for, own_choices}
 use Rattle.world_core.specs.LinkView.{IsAppended, LinkHasRoom, LinkView, packets_to, room_to}
 use Rattle.world_core.specs.SideTurns.{DeliveryPlays, StandsIn}
 use Rattle.world_core.specs.WorldView.{WorldView, seen_by, state_of}
 use Rattle.world_core.specs.Worlds.{IsHalfOf, IsLinkOf, IsRun, room_of}
 
--- A half with nothing stored that fits behind the lines of its link stands on it, and the other way round
+-- A half with nothing stored that fits after the lines of its link is on it, and the other way round
 
-pub stands-home : (setting : Setting) (side : Side) (half : HalfView) (link : LinkView) → FitsBehind setting side link.lines half → IsEmptied half → IsHome setting link → StandsIn (seen_by setting link) side half link
+pub stands-home : (setting : Setting) (side : Side) (half : HalfView) (link : LinkView) → FitsAfter setting side link.lines half → IsEmptied half → IsHome setting link → StandsIn (seen_by setting link) side half link
 stands-home setting side half link fits emptied home =
     let state : RunState = state_of setting link.lines in
     let lines : fits.to.lines ≡ state.lines = reached setting side link.lines half fits ∙ ap (λ (ls : List Line). link.lines ++ ls) emptied.0 ∙ append-nil link.lines ∙ home.lines in
@@ -55,7 +55,7 @@ stands-home setting side half link fits emptied home =
       };
     }
 
-pub stands-fits : (setting : Setting) (side : Side) (half : HalfView) (link : LinkView) → StandsIn (seen_by setting link) side half link → FitsBehind setting side link.lines half
+pub stands-fits : (setting : Setting) (side : Side) (half : HalfView) (link : LinkView) → StandsIn (seen_by setting link) side half link → FitsAfter setting side link.lines half
 stands-fits setting side half link stands =
     let state : RunState = state_of setting link.lines in
     record {
@@ -81,7 +81,7 @@ stands-fits setting side half link stands =
 counted-appended : (half : HalfView) (p : Progress) → IsCountedBy half p → IsCountedBy (appended half) p
 counted-appended half p h = record { counts = h.counts; held = h.held }
 
--- What a link is behind lines and packets that a side has appended.
+-- What a link is after lines and packets that a side has appended.
 record Holds (link : LinkView) (side : Side) (lines : List Line) (packets : List Packet) (last : LinkView) : Type 0 where
   lines_are : last.lines ≡ link.lines ++ lines
   own : packets_to side last ≡ packets_to side link
@@ -110,7 +110,7 @@ both-links : (P : Side → Type 0) (side : Side) → P side → P (other side) �
 both-links P sides.Parent own away = (own, away)
 both-links P sides.Child own away = (away, own)
 
-module _ (setting : Setting) (side : Side) (half : HalfView) (link : LinkView) (fits : FitsBehind setting side link.lines half) (home : IsHome setting link) where
+module _ (setting : Setting) (side : Side) (half : HalfView) (link : LinkView) (fits : FitsAfter setting side link.lines half) (home : IsHome setting link) where
   at-home : state_of setting link.lines ≡ fits.from
   at-home = sym (case_worlds_are_one setting fits.leading home.choices fits.from (state_of setting link.lines) fits.leads home.plays (fits.is_seen ∙ home.lines)).1
 
@@ -199,7 +199,7 @@ module _ (setting : Setting) (side : Side) (half : HalfView) (link : LinkView) (
     pub handed-home : IsHome setting last
     handed-home = subst (λ (s : RunState). IsRun setting s last) (sym told-to) handed
 
-    -- the half has nothing left to append, and fits behind the link
+    -- the half has nothing left to append, and fits after the link
     pub handed-stands : (after : HalfView) → after ≡ appended half → StandsIn (seen_by setting last) side after last
     handed-stands after is =
         let emptied : IsHalfOf setting fits.to side (appended half) = record { about = fits.come.about; end = fits.come.end; no_lines = refl; no_packets = refl; counted = counted-appended half (progress_of side fits.to.lines) fits.come.counted } in
@@ -208,7 +208,7 @@ module _ (setting : Setting) (side : Side) (half : HalfView) (link : LinkView) (
           half_is = subst (IsHalfOf setting (state_of setting last.lines) side) (sym is) (subst (λ (s : RunState). IsHalfOf setting s side (appended half)) (sym told-to) emptied);
         }
 
-    pub handed-fits : (after : HalfView) → after ≡ appended half → FitsBehind setting side last.lines after
+    pub handed-fits : (after : HalfView) → after ≡ appended half → FitsAfter setting side last.lines after
     handed-fits after is = stands-fits setting side after last (handed-stands after is)
 
     plays-to : played setting (own_choices side fits.stored.count) (state_of setting link.lines) ≡ Some (state_of setting last.lines)
@@ -216,7 +216,7 @@ module _ (setting : Setting) (side : Side) (half : HalfView) (link : LinkView) (
         subst (λ (s : RunState). played setting (own_choices side fits.stored.count) s ≡ Some (state_of setting last.lines)) (sym at-home)
         (subst (λ (s : RunState). played setting (own_choices side fits.stored.count) fits.from ≡ Some s) (sym told-to) fits.stored.plays)
 
-    -- and deliveries behind that end a meeting
+    -- and deliveries after that, which end a meeting
     pub has-met : (after : HalfView) (ends : LinkView) → StandsIn (seen_by setting ends) side after ends → Delivers setting side (state_of setting last.lines) (state_of setting ends.lines) → HasMet setting side half link after ends
     has-met after ends stands delivers = record {
       between = last;
@@ -226,7 +226,7 @@ module _ (setting : Setting) (side : Side) (half : HalfView) (link : LinkView) (
       own = stored-own setting side link.lines half fits;
       delivers = delivers;
       lines =
-          stands.run.lines ∙ delivers.behind
+          stands.run.lines ∙ delivers.following
           ∙ ap (λ (ls : List Line). ls ++ delivers.lines) (sym handed-home.lines ∙ (holds side link last half.end.lines half.end.packets appends).lines_are);
       home = stands.run;
       fits = stands-fits setting side after ends stands;
@@ -242,7 +242,7 @@ waits-is at side half link stands =
     ∙ ap (λ (ps : List Packet). is_open (end_of side at.state.world).state && is_some (first_of ps)) (link-of at.setting at.state link stands.run side).packets
     ∙ ap (λ (b : Bool). is_open (end_of side at.state.world).state && b) (first-some at.setting.schema (link_to side at.state.world))
 
--- Since a link was this one, deliveries to a side were made, and its half stands on the link.
+-- Since a link was this one, deliveries to a side were made, and its half is on the link.
 pub record DeliversSo (setting : Setting) (side : Side) (begun now : LinkView) (half : HalfView) : Type 0 where
   pub stands : StandsIn (seen_by setting now) side half now
   pub delivers : Delivers setting side (state_of setting begun.lines) (state_of setting now.lines)
@@ -261,7 +261,7 @@ module _ (setting : Setting) (side : Side) (begun now after : LinkView) (half la
             subst (λ (cs : List Choice). played setting cs (state_of setting begun.lines) ≡ Some h.2.next) (replicate_more d.count choice)
             (played-last setting (deliveries_to side d.count) choice (state_of setting begun.lines) state h.2.next d.plays h.2.is_chosen);
         lines = d.lines ++ alone.lines;
-        behind = alone.behind ∙ ap (λ (ls : List Line). ls ++ alone.lines) d.behind ∙ append_assoc (state_of setting begun.lines).lines d.lines alone.lines;
+        following = alone.following ∙ ap (λ (ls : List Line). ls ++ alone.lines) d.following ∙ append_assoc (state_of setting begun.lines).lines d.lines alone.lines;
         own = lines_of-append (other side) d.lines alone.lines ∙ ap (λ (ws : List What). ws ++ lines_of (other side) alone.lines) d.own ∙ alone.own;
       } in
       record {

@@ -6,7 +6,7 @@ use Rattle.ipdl_base.specs.declared.kinds.Side.TheVariants as sides
 use Rattle.ipdl_base.specs.declared.line.Line.{Line}
 use Rattle.channel_model.specs.Ends.{End, Packet, end_of, link_to}
 use Rattle.channel_model.specs.Events.{Event}
-use Rattle.channel_model.specs.Numbers.{other}
+use Rattle.ipdl_base.specs.Sides.{other}
 use Rattle.channel_model.specs.Outputs.{Output}
 use Rattle.channel_model.specs.Runs.{RunState, after_event, is_delivery}
 use Rattle.channel_model.specs.Steps.{step}
@@ -16,7 +16,7 @@ use Rattle.script_steps.proofs.Playing.{PlaysOn, chooses, plays_on}
 use Rattle.script_steps.specs.Choices.{Choice, Setting, chosen, is_within, own_event, played}
 use Rattle.script_steps.specs.NextEvent.{next_event}
 use Rattle.script_steps.specs.Progress.{Progress, after_lines, lines_of, progress_of}
-use Rattle.world_core.proofs.Played.{chosen-is, ends-own, puts, run_behind}
+use Rattle.world_core.proofs.Played.{chosen-is, ends-own, puts, run_after}
 use Rattle.world_core.proofs.Standing.{link-free, link-kept}
 use Rattle.world_core.specs.Halves.{own_choices}
 
@@ -45,12 +45,12 @@ alike-on side from next last again between to h k = record {
   kept = k.kept ∙ h.kept;
 }
 
--- the link toward a side behind an event there
-takes : (side : Side) (state : RunState) (event : Event) (output : Output) → link_to side (run_behind side state event output).world ≡ after_event event (link_to side state.world)
+-- the link toward a side after an event there
+takes : (side : Side) (state : RunState) (event : Event) (output : Output) → link_to side (run_after side state event output).world ≡ after_event event (link_to side state.world)
 takes sides.Parent state event output = refl
 takes sides.Child state event output = refl
 
--- the progress behind the same lines is the same
+-- the progress after the same lines is the same
 same-progress : (side : Side) (from again : RunState) (lines : List Line) → progress_of side again.lines ≡ progress_of side from.lines → progress_of side (again.lines ++ lines) ≡ progress_of side (from.lines ++ lines)
 same-progress side from again lines h =
     progress-append side again.lines lines ∙ ap (λ (p : Progress). after_lines p (lines_of side lines)) h ∙ sym (progress-append side from.lines lines)
@@ -83,7 +83,7 @@ module _ (setting : Setting) (side : Side) where
       let has : own_event setting side again ≡ Some c.event =
       ap (λ (e : End). next_event setting.script setting.stop e (progress_of side again.lines)) end ∙ ap (next_event setting.script setting.stop (end_of side from.world)) progress ∙ c.has in
       record {
-        to = run_behind side again c.event h.output;
+        to = run_after side again c.event h.output;
         is = (chosen-is setting own again c.event h.output within has possible).0;
         alike = record {
           end = ends-own side again c.event h.output ∙ sym (ap (end_of side) h.world ∙ ends-own side from c.event h.output);

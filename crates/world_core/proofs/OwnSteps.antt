@@ -104,7 +104,7 @@ module _ (before after : HalfView) (p : Progress) (counted : IsCountedBy before 
     keep-gives : (name : List ℕ) → HasOwn before seq → (a : StepAnswer) → EventGives before (event.keep seq name) (with_answer None) a after → StepGives before p (event.keep seq name) a after
     keep-gives name own a h = answer-gives (event.keep seq name) refl None (kept-resolvers before.end before.counts own.own counted.held own.held apart seq name own.seq_is) a h
 
-    -- an action, whatever its terms stand for
+    -- an action, whatever its terms represent
     pub action-gives : (context : TermContext) (act : Action) → (answers_handled act ≡ true → HasOwn before seq) → (a : StepAnswer) → EventGives before (event_of context seq act) (counting_of before (event_of context seq act)) a after → StepGives before p (event_of context seq act) a after
     action-gives context (action.Send who number terms) own a h = act-gives (event_of context seq (action.Send who number terms)) refl refl a h
     action-gives context (action.New name who number terms) own a h = act-gives (event_of context seq (action.New name who number terms)) refl refl a h
@@ -124,7 +124,7 @@ module _ (before after : HalfView) (p : Progress) (counted : IsCountedBy before 
   owns x is within (answer.Spent side) h = absurd h
   owns x is within answer.NoMemory h = h
 
--- What terms stand for is told by the counts.
+-- The counts decide what terms represent.
 
 module _ (script : Script) (side : Side) (e : End) where
   pub same-context : (rs : List RunningView) (hs : List HandledRequest) → AreRunning script side rs hs → context_by e rs ≡ context_of e hs

@@ -11,12 +11,12 @@ use Rattle.value_types.specs.Laws.{BoxesSayNothing}
 use Rattle.end_parts.specs.PlainLines.{plain_line}
 use Rattle.history.specs.Text.{line_text}
 use Rattle.line_laws.proofs.Texts.{effect-plain, line-plain, message-plain}
-use Rattle.transcript_laws.specs.Printed.{line_texts}
-use Rattle.transcript_laws.specs.TextLines.{text_lines}
-use Rattle.transcript_reader.specs.declared.comparison.Alike.{Alike}
-use Rattle.transcript_reader.specs.declared.comparison.Alike.TheVariants as alike
-use Rattle.transcript_reader.specs.declared.comparison.Comparison.{Comparison}
-use Rattle.transcript_reader.specs.Compared.{DifferAtOnce, EndsSo, HasCompared, HasPassed, events_in}
+use Rattle.transcripts.specs.Printed.{line_texts}
+use Rattle.transcripts.specs.TextLines.{text_lines}
+use Rattle.transcripts.specs.declared.comparison.LineMatch.{LineMatch}
+use Rattle.transcripts.specs.declared.comparison.LineMatch.TheVariants as alike
+use Rattle.transcripts.specs.declared.comparison.Comparison.{Comparison}
+use Rattle.transcripts.specs.Compared.{DifferAtOnce, EndsSo, HasCompared, HasPassed, events_in}
 
 module _ (says : BoxesSayNothing) where
   texts-plain : (schema : Schema) (before lines : List Line) → line_texts schema (map plain_line before) (map plain_line lines) ≡ line_texts schema before lines
@@ -55,7 +55,7 @@ module _ (says : BoxesSayNothing) where
     within = h.within;
   }
 
-  pub compared-plain : (schema : Schema) (before lines : List Line) (old new : Comparison) (found : Alike) → HasCompared schema before lines old found new → HasCompared schema (map plain_line before) (map plain_line lines) old found new
+  pub compared-plain : (schema : Schema) (before lines : List Line) (old new : Comparison) (found : LineMatch) → HasCompared schema before lines old found new → HasCompared schema (map plain_line before) (map plain_line lines) old found new
   compared-plain schema before lines old new found c = record {
     first = map plain_line c.first;
     others = map plain_line c.others;
@@ -66,7 +66,7 @@ module _ (says : BoxesSayNothing) where
     ends = subst (λ ls. EndsSo schema ls (map plain_line c.others) found new) (map-append plain_line before c.first) (by found c.ends);
   }
     where
-      by : (f : Alike) → EndsSo schema (before ++ c.first) c.others f new → EndsSo schema (map plain_line (before ++ c.first)) (map plain_line c.others) f new
+      by : (f : LineMatch) → EndsSo schema (before ++ c.first) c.others f new → EndsSo schema (map plain_line (before ++ c.first)) (map plain_line c.others) f new
       by alike.All h = (ap (map plain_line) h.0, passed-plain (before ++ c.first) new h.1)
       by alike.Over h = (λ none. h.0 (no-map c.others none), h.1)
         where
@@ -76,7 +76,7 @@ module _ (says : BoxesSayNothing) where
       by alike.Other h = subst (DifferAtOnce (text_lines new.left.now)) (sym (texts-plain schema (before ++ c.first) c.others)) h
 
   -- the newest lines of a history, of which contracts see the plain ones
-  pub newest-compared : (schema : Schema) (all before more : List Line) (n : ℕ) (old new : Comparison) (found : Alike) → map plain_line all ≡ before ++ more → n ≡ old.lines
+  pub newest-compared : (schema : Schema) (all before more : List Line) (n : ℕ) (old new : Comparison) (found : LineMatch) → map plain_line all ≡ before ++ more → n ≡ old.lines
       → ((boxed : List Line) → HasPassed boxed old → HasCompared schema boxed (drop n all) old found new) → HasPassed before old → HasCompared schema before more old found new
   newest-compared schema all before more n old new found is count compares passed =
       let size : n ≡ length before = count ∙ passed.count in
@@ -86,7 +86,7 @@ module _ (says : BoxesSayNothing) where
       (subst (λ ls. HasCompared schema (map plain_line (take n all)) ls old found new) rest
       (compared-plain schema (take n all) (drop n all) old new found (compares (take n all) (passed-boxed (take n all) old (subst (λ ls. HasPassed ls old) (sym first) passed)))))
 
-  pub newest-found : {E : Type 0} (schema : Schema) (all newest seen : List Line) (n : ℕ) (old new : Comparison) (found : Result Alike E) → map plain_line all ≡ seen → n ≡ old.lines → newest ≡ drop n all
+  pub newest-found : {E : Type 0} (schema : Schema) (all newest seen : List Line) (n : ℕ) (old new : Comparison) (found : Result LineMatch E) → map plain_line all ≡ seen → n ≡ old.lines → newest ≡ drop n all
       → IfOk found (λ f. (boxed : List Line) → HasPassed boxed old → HasCompared schema boxed newest old f new)
       → IfOk found (λ f. (before more : List Line) → seen ≡ before ++ more → HasPassed before old → HasCompared schema before more old f new)
   newest-found schema all newest seen n old new (Err e) is count last h = tt

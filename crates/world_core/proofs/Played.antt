@@ -1,4 +1,4 @@
--- A choice of a run that a half has carried out: the half, the link and the run behind it.
+-- A choice of a run that a half has carried out: the half, the link and the run after it.
 use Rattle.std.proofs.Common.{◌≡◌, ℕ, suc, ◌+◌, ◌*◌, ◌≤◌, Bool, true, false, cond, if◌then◌else◌, List, [], ◌∷◌, ◌++◌, drop, length, map, Option, Some, None, is_some, option_and_then, refl, sym, ap, subst, ◌∙◌, arith, length-append}
 use Rattle.std.specs.List.{AllByRecursion}
 use Rattle.std.specs.Option.{option_map_or}
@@ -14,7 +14,7 @@ use Rattle.channel_model.specs.Ends.{end_of, link_to}
 use Rattle.channel_model.specs.Ends as model
 use Rattle.channel_model.specs.Events.{Event}
 use Rattle.channel_model.specs.Events as e
-use Rattle.channel_model.specs.Numbers.{other}
+use Rattle.ipdl_base.specs.Sides.{other}
 use Rattle.channel_model.specs.Outputs.{Output, line_at}
 use Rattle.channel_model.specs.Runs.{RunState, after_event, passed_by, world_after}
 use Rattle.channel_model.specs.Steps.{step}
@@ -25,7 +25,7 @@ use Rattle.script_runs.proofs.Room.{cases_have_room}
 use Rattle.script_steps.proofs.Choosing.{side-of}
 use Rattle.script_steps.proofs.Counting.{lines_of-own, progress-append}
 use Rattle.script_steps.proofs.StepLines.{Prints, step-prints}
-use Rattle.script_steps.specs.Choices.{Choice, Setting, behind_event, beginning_of, chosen, event_by, is_doable, is_within, played}
+use Rattle.script_steps.specs.Choices.{Choice, Setting, following_event, beginning_of, chosen, event_by, is_doable, is_within, played}
 use Rattle.script_steps.specs.Turns.{led_to}
 use Rattle.script_steps.specs.Progress.{Progress, after_lines, lines_of, progress_of}
 use Rattle.world_core.proofs.Chosen.{run-sides}
@@ -37,9 +37,9 @@ use Rattle.world_core.specs.SideTurns.{HasPlayed, StandsIn}
 use Rattle.world_core.specs.WorldView.{WorldView}
 use Rattle.world_core.specs.Worlds.{IsHalfOf, IsLinkOf, IsRun, room_of}
 
--- the run behind an event of a side
-abbrev pub run_behind : Side → RunState → Event → Output → RunState
-run_behind side state event output = record { world = world_after (record { side = side; event = event }) output state.world; lines = state.lines ++ output.lines }
+-- the run after an event of a side
+abbrev pub run_after : Side → RunState → Event → Output → RunState
+run_after side state event output = record { world = world_after (record { side = side; event = event }) output state.world; lines = state.lines ++ output.lines }
 
 -- Lines of both sides
 
@@ -69,12 +69,12 @@ few-packets setting state choices sound h side =
 -- A choice whose event is possible is one of the run
 pub chosen-is : (setting : Setting) (choice : Choice) (state : RunState) (event : Event) (output : Output) → is_within setting choice.side state ≡ true → event_by setting choice state ≡ Some event
     → step setting.schema (end_of choice.side state.world) (link_to choice.side state.world) event ≡ Some output
-    → (chosen setting choice state ≡ Some (run_behind choice.side state event output)) × (led_to setting choice state ≡ run_behind choice.side state event output)
+    → (chosen setting choice state ≡ Some (run_after choice.side state event output)) × (led_to setting choice state ≡ run_after choice.side state event output)
 chosen-is setting choice state event output within has is = (
-  ap (λ (b : Bool). if b then option_and_then (λ event. if is_doable setting choice.side state event then Some (behind_event setting choice.side state event) else None) (event_by setting choice state) else None) within
-      ∙ ap (option_and_then (λ event. if is_doable setting choice.side state event then Some (behind_event setting choice.side state event) else None)) has
+  ap (λ (b : Bool). if b then option_and_then (λ event. if is_doable setting choice.side state event then Some (following_event setting choice.side state event) else None) (event_by setting choice state) else None) within
+      ∙ ap (option_and_then (λ event. if is_doable setting choice.side state event then Some (following_event setting choice.side state event) else None)) has
       ∙ ap (λ (found : Option Output). if is_some found then Some (record { world = (passed_by found (record { side = choice.side; event = event }) state.world).world; lines = state.lines ++ (passed_by found (record { side = choice.side; event = event }) state.world).lines }) else None) is,
-  ap (λ (found : Option Event). option_map_or (behind_event setting choice.side state) found state) has
+  ap (λ (found : Option Event). option_map_or (following_event setting choice.side state) found state) has
       ∙ ap (λ (found : Option Output). record { world = (passed_by found (record { side = choice.side; event = event }) state.world).world; lines = state.lines ++ (passed_by found (record { side = choice.side; event = event }) state.world).lines }) is,
 )
 
@@ -111,7 +111,7 @@ all-drop : (schema : Schema) (ps : List model.Packet) → AllByRecursion (IsFram
 all-drop schema [] h = tt
 all-drop schema (p ∷ ps) h = h.1
 
--- the packets of a link toward a side stay framed behind an event there
+-- the packets of a link toward a side stay framed after an event there
 stays-framed : (schema : Schema) (event : Event) (ps : List model.Packet) → AllByRecursion (IsFramed schema) ps → AllByRecursion (IsFramed schema) (after_event event ps)
 stays-framed schema e.deliver ps h = all-drop schema ps h
 stays-framed schema (e.send route number vs name) ps h = h
@@ -125,11 +125,11 @@ stays-framed schema (e.return vs) ps h = h
 stays-framed schema e.resume ps h = h
 stays-framed schema e.flush ps h = h
 
--- the links behind an event: what a side has put stands last on the one away from it
+-- the links after an event: what a side has put is last on the one away from it
 links : (setting : Setting) (side : Side) (state : RunState) (event : Event) (output : Output) (link after : LinkView) (lines : List Line)
     → AllByRecursion (IsFramed setting.schema) output.packets
     → IsAppended (with_packets_to side (packets_of setting.schema (after_event event (link_to side state.world))) link) lines (other side) (packets_of setting.schema output.packets) after
-    → IsLinkOf setting state sides.Parent link → IsLinkOf setting state sides.Child link → (at : Side) → IsLinkOf setting (run_behind side state event output) at after
+    → IsLinkOf setting state sides.Parent link → IsLinkOf setting state sides.Child link → (at : Side) → IsLinkOf setting (run_after side state event output) at after
 links setting sides.Parent state event output link after lines framed is p c sides.Parent = record {
   packets = ap (λ (l : LinkView). l.to_parent) is.is;
   framed = stays-framed setting.schema event state.world.to_parent p.framed;
@@ -151,16 +151,16 @@ links setting sides.Child state event output link after lines framed is p c side
   room = subst (λ (n : ℕ). room_of setting.limit ≤ n) (sym (ap (λ (l : LinkView). l.child_room) is.is)) c.room;
 }
 
-pub ends-own : (side : Side) (state : RunState) (event : Event) (output : Output) → end_of side (run_behind side state event output).world ≡ output.end
+pub ends-own : (side : Side) (state : RunState) (event : Event) (output : Output) → end_of side (run_after side state event output).world ≡ output.end
 ends-own sides.Parent state event output = refl
 ends-own sides.Child state event output = refl
 
-pub ends-rest : (side : Side) (state : RunState) (event : Event) (output : Output) → end_of (other side) (run_behind side state event output).world ≡ end_of (other side) state.world
+pub ends-rest : (side : Side) (state : RunState) (event : Event) (output : Output) → end_of (other side) (run_after side state event output).world ≡ end_of (other side) state.world
 ends-rest sides.Parent state event output = refl
 ends-rest sides.Child state event output = refl
 
--- the link away from a side behind an event
-pub puts : (side : Side) (state : RunState) (event : Event) (output : Output) → link_to (other side) (run_behind side state event output).world ≡ link_to (other side) state.world ++ output.packets
+-- the link away from a side after an event
+pub puts : (side : Side) (state : RunState) (event : Event) (output : Output) → link_to (other side) (run_after side state event output).world ≡ link_to (other side) state.world ++ output.packets
 puts sides.Parent state event output = refl
 puts sides.Child state event output = refl
 
@@ -190,7 +190,7 @@ module _ (at : WorldView) (side : Side) (half after : HalfView) (link between : 
   output_is = steps.output
 
   abbrev next_is : RunState
-  next_is = run_behind side at.state event output_is
+  next_is = run_after side at.state event output_is
 
   abbrev choice_is : Choice
   choice_is = record { side = side; delivers = delivers }
@@ -199,11 +199,11 @@ module _ (at : WorldView) (side : Side) (half after : HalfView) (link between : 
   schema-is = ap (λ (s : Setting). s.schema) stands.half_is.about
 
   lines-are : after.end.lines ≡ output_is.lines
-  lines-are = ap (λ (v : EndView). v.lines) steps.is_behind ∙ ap (λ (ls : List Line). ls ++ output_is.lines) stands.half_is.no_lines
+  lines-are = ap (λ (v : EndView). v.lines) steps.is_after ∙ ap (λ (ls : List Line). ls ++ output_is.lines) stands.half_is.no_lines
 
   packets-are : after.end.packets ≡ packets_of at.setting.schema output_is.packets
   packets-are =
-      ap (λ (v : EndView). v.packets) steps.is_behind ∙ ap (λ (ps : List Packet). ps ++ packets_of half.end.schema output_is.packets) stands.half_is.no_packets
+      ap (λ (v : EndView). v.packets) steps.is_after ∙ ap (λ (ps : List Packet). ps ++ packets_of half.end.schema output_is.packets) stands.half_is.no_packets
       ∙ ap (λ (schema : Schema). packets_of schema output_is.packets) schema-is
 
   is-chosen : (chosen at.setting choice_is at.state ≡ Some next_is) × (led_to at.setting choice_is at.state ≡ next_is)
@@ -212,10 +212,10 @@ module _ (at : WorldView) (side : Side) (half after : HalfView) (link between : 
   plays-next : played at.setting (stands.run.choices ++ choice_is ∷ []) (beginning_of at.setting) ≡ Some next_is
   plays-next = played-last at.setting stands.run.choices choice_is (beginning_of at.setting) at.state next_is stands.run.plays is-chosen.0
 
-  -- the half behind its event is of the same side
+  -- the half after its event is of the same side
   pub after-side : after.end.end.side ≡ side
   after-side =
-      ap (λ (v : EndView). v.end.side) steps.is_behind ∙ (step-prints at.setting.schema (end_of side at.state.world) (link_to side at.state.world) event output_is is).side
+      ap (λ (v : EndView). v.end.side) steps.is_after ∙ (step-prints at.setting.schema (end_of side at.state.world) (link_to side at.state.world) event output_is is).side
       ∙ side-of at.state.world side (run-sides at.setting stands.run.choices at.state stands.run.plays)
 
   -- the link has room for what the half has made
@@ -240,7 +240,7 @@ module _ (at : WorldView) (side : Side) (half after : HalfView) (link between : 
       let enough = away.room in
       record { lines_fit = omega (arith, few, long, room, told, spare, made); packets_fit = omega (arith, most, put, sent, lying, roomy, enough) }
 
-  -- and stands in the next state when it has appended that
+  -- and is in the next state when it has appended that
   pub has-played : (last : HalfView) (ends : LinkView) → last ≡ appended after → IsAppended between after.end.lines (other side) after.end.packets ends → HasPlayed at choice_is last ends
   has-played last ends emptied appends =
       let prints : Prints (end_of side at.state.world) event output_is = step-prints at.setting.schema (end_of side at.state.world) (link_to side at.state.world) event output_is is in
@@ -259,12 +259,12 @@ module _ (at : WorldView) (side : Side) (half after : HalfView) (link between : 
       let kept = with-spare side (packets_of at.setting.schema (after_event event (link_to side at.state.world))) link in
       let room = stands.run.room in
       let about : setting_of after ≡ at.setting =
-      ap setting_of steps.same ∙ ap (λ (schema : Schema). record { schema = schema; script = half.script; stop = half.stop; limit = half.limit }) (ap (λ (v : EndView). v.schema) steps.is_behind) ∙ stands.half_is.about in
+      ap setting_of steps.same ∙ ap (λ (schema : Schema). record { schema = schema; script = half.script; stop = half.stop; limit = half.limit }) (ap (λ (v : EndView). v.schema) steps.is_after) ∙ stands.half_is.about in
       let counted : IsCountedBy after (progress_of side next_is.lines) =
       subst (λ (p : Progress). IsCountedBy after p) (sym (own-progress side at.state.lines output_is.lines (prints.first ∷ prints.rest) are)) steps.counted in
       let half_is : IsHalfOf at.setting next_is side (appended after) = record {
         about = about;
-        end = ap (λ (v : EndView). v.end) steps.is_behind ∙ sym (ends-own side at.state event output_is);
+        end = ap (λ (v : EndView). v.end) steps.is_after ∙ sym (ends-own side at.state event output_is);
         no_lines = refl;
         no_packets = refl;
         counted = record { counts = counted.counts; held = counted.held };

@@ -9,7 +9,7 @@ use Rattle.ipdl_base.specs.declared.schema.Schema.{Schema}
 use Rattle.channel_model.specs.Ends.{Packet}
 use Rattle.channel_model.specs.Events.{Event}
 use Rattle.channel_model.specs.Events as event
-use Rattle.channel_model.specs.Numbers.{other}
+use Rattle.ipdl_base.specs.Sides.{other}
 use Rattle.channel_model.specs.Outputs.{Output, is_open}
 use Rattle.channel_model.specs.Steps.{step}
 use Rattle.end_parts.specs.declared.packet.Packet.{Packet as ChannelPacket}
@@ -21,9 +21,9 @@ use Rattle.script_steps.specs.Turns.{RunEnding, at_limit, at_rest}
 use Rattle.relay_runs.proofs.Sides.{half-here, half-there}
 use Rattle.relay_runs.proofs.TurnEnds.{turns-end}
 use Rattle.relay_runs.proofs.TurnSteps.{turns_are_relays}
-use Rattle.relay_runs.specs.HalfRuns.{HalfState, behind, behind_packet, delivered_for, is_within, opening_half, own_event}
+use Rattle.relay_runs.specs.HalfRuns.{HalfState, after, after_packet, delivered_for, is_within, opening_half, own_event, after_next, after_own}
 use Rattle.relay_runs.specs.RelaySteps.{IsRelay, RelayState, half_of, next_packet, opening_relay, with_half}
-use Rattle.relay_runs.specs.Relays.{RelayTurns, behind_next, behind_own, exceeds, goes_on, idles, leads, packet_turn, passes, relay_turn, rests, stops, turn_by}
+use Rattle.relay_runs.specs.Relays.{RelayTurns, exceeds, goes_on, idles, leads, packet_turn, passes, relay_turn, rests, stops, turn_by}
 use Rattle.world_core.proofs.KeptEnds.{fewer}
 use Rattle.world_core.proofs.KeptHalves.{apart-rests, opened-is, rests-apart, schema-is, step-grows}
 use Rattle.world_core.specs.declared.answers.AcceptAnswer.{AcceptAnswer}
@@ -51,10 +51,10 @@ pub turned-round : (setting : Setting) (side : Side) (state : RelayState) (half 
 turned-round setting sides.Parent state half facing apart = record { goes = apart.faces; faces = apart.goes }
 turned-round setting sides.Child state half facing apart = record { goes = apart.faces; faces = apart.goes }
 
--- what comes behind the first of a list
-behind-first : (before : List Packet) (rest : List Packet) → drop (length before) (before ++ rest) ≡ rest
-behind-first [] rest = refl
-behind-first (p ∷ ps) rest = behind-first ps rest
+-- what comes after the first of a list
+following-first : (before : List Packet) (rest : List Packet) → drop (length before) (before ++ rest) ≡ rest
+following-first [] rest = refl
+following-first (p ∷ ps) rest = following-first ps rest
 
 module _ (setting : Setting) (side : Side) (state : RelayState) (half facing : HalfView) (apart : GoApart setting side state half facing) where
   abbrev mine : HalfState
@@ -64,7 +64,7 @@ module _ (setting : Setting) (side : Side) (state : RelayState) (half facing : H
   theirs = half_of (other side) state
 
   next-is : (rest : List Packet) → theirs.sent ≡ mine.came ++ rest → next_packet side state ≡ first_of rest
-  next-is rest sent = ap (λ (ps : List Packet). first_of (drop (length mine.came) ps)) sent ∙ ap first_of (behind-first mine.came rest)
+  next-is rest sent = ap (λ (ps : List Packet). first_of (drop (length mine.came) ps)) sent ∙ ap first_of (following-first mine.came rest)
 
   -- a step led to the next state
   has-led : (next : HalfState) (happened : Event) (link : List Packet) (output : Output) (half' facing' : HalfView) → relay_turn setting side state ≡ leads (with_half side next state) → is_within setting side mine ≡ true
@@ -82,19 +82,19 @@ module _ (setting : Setting) (side : Side) (state : RelayState) (half facing : H
 
   -- Its own step
 
-  own-leads : (own : Event) (output : Output) → own_event setting side mine ≡ Some own → is_within setting side mine ≡ true → step setting.schema mine.end [] own ≡ Some output → relay_turn setting side state ≡ leads (with_half side (behind mine output) state)
+  own-leads : (own : Event) (output : Output) → own_event setting side mine ≡ Some own → is_within setting side mine ≡ true → step setting.schema mine.end [] own ≡ Some output → relay_turn setting side state ≡ leads (with_half side (after mine output) state)
   own-leads own output is within stepped =
       ap (turn_by setting side state) is
-      ∙ ap (λ (b : Bool). if b then leads (with_half side (behind_own setting mine own) state) else exceeds) within
-      ∙ ap (λ (found : Option Output). leads (with_half side (option_map_or (behind mine) found mine) state)) stepped
+      ∙ ap (λ (b : Bool). if b then leads (with_half side (after_own setting mine own) state) else exceeds) within
+      ∙ ap (λ (found : Option Output). leads (with_half side (option_map_or (after mine) found mine) state)) stepped
 
   own-exceeds : (own : Option Event) → own_event setting side mine ≡ own → is_some own ≡ true → is_within setting side mine ≡ false → relay_turn setting side state ≡ exceeds
   own-exceeds None is some full = cc
-  own-exceeds (Some own) is some full = ap (turn_by setting side state) is ∙ ap (λ (b : Bool). if b then leads (with_half side (behind_own setting mine own) state) else exceeds) full
+  own-exceeds (Some own) is some full = ap (turn_by setting side state) is ∙ ap (λ (b : Bool). if b then leads (with_half side (after_own setting mine own) state) else exceeds) full
 
   pub own-turn : (told : StepAnswer) (half' : HalfView) → (told ≡ answer.Nothing → ⊥) → GoingGives setting side mine theirs.came told half' → RelayTurnGives setting side state told half' facing
   own-turn answer.Did half' isnt h =
-      has-led (behind mine h.output) h.own [] h.output half' facing (own-leads h.own h.output h.is_own h.within h.is_step) h.within h.is_step refl h.goes apart.faces
+      has-led (after mine h.output) h.own [] h.output half' facing (own-leads h.own h.output h.is_own h.within h.is_step) h.within h.is_step refl h.goes apart.faces
   own-turn answer.Nothing half' isnt h = absurd (isnt refl)
   own-turn (answer.Spent at) half' isnt h = (own-exceeds (own_event setting side mine) refl h.0 h.1, h.2, h.3.history, apart.faces.history)
   own-turn answer.NoMemory half' isnt h = tt
@@ -121,15 +121,15 @@ module _ (setting : Setting) (side : Side) (state : RelayState) (half facing : H
         comes : next_packet side state ≡ Some came
         comes = next-is (came ∷ faces.held) (faces.sent ∙ append_assoc mine.came (came ∷ []) faces.held)
 
-        takes : relay_turn setting side state ≡ (if is_within setting side mine then leads (with_half side (behind_next setting mine came) state) else exceeds)
+        takes : relay_turn setting side state ≡ (if is_within setting side mine then leads (with_half side (after_next setting mine came) state) else exceeds)
         takes = open-looks ∙ ap (packet_turn setting side state) comes
 
         accepted : (half' : HalfView) → HasAccepted setting side mine theirs.came came half' → HasLed setting side state half' facing'
         accepted half' h =
             let given : Packet = delivered_for setting.schema mine.end came in
-            has-led (behind_packet mine came given h.output) event.deliver (given ∷ []) h.output half' facing'
-            (takes ∙ ap (λ (b : Bool). if b then leads (with_half side (behind_next setting mine came) state) else exceeds) h.within
-            ∙ ap (λ (found : Option Output). leads (with_half side (option_map_or (behind_packet mine came given) found mine) state)) h.is_step)
+            has-led (after_packet mine came given h.output) event.deliver (given ∷ []) h.output half' facing'
+            (takes ∙ ap (λ (b : Bool). if b then leads (with_half side (after_next setting mine came) state) else exceeds) h.within
+            ∙ ap (λ (found : Option Output). leads (with_half side (option_map_or (after_packet mine came given) found mine) state)) h.is_step)
             h.within h.is_step refl h.goes faces
 
         pub packet-turn : (told : AcceptAnswer) (half' : HalfView) → AcceptGives setting side mine theirs.came (carried came) told half' → RelayTurnGives setting side state (turn_answer told) half' facing'
@@ -137,7 +137,7 @@ module _ (setting : Setting) (side : Side) (state : RelayState) (half facing : H
         packet-turn accept.Refused half' h = accepted half' h.1
         packet-turn accept.Nothing half' h = absurd (let e : true ≡ false = sym opened ∙ h.0 in let no : ⊥ = cc in no)
         packet-turn (accept.Spent at) half' h =
-            (takes ∙ ap (λ (b : Bool). if b then leads (with_half side (behind_next setting mine came) state) else exceeds) h.1, h.2, h.3.history, faces.history)
+            (takes ∙ ap (λ (b : Bool). if b then leads (with_half side (after_next setting mine came) state) else exceeds) h.1, h.2, h.3.history, faces.history)
         packet-turn accept.NoMemory half' h = tt
 
 -- Turns in each state
@@ -199,7 +199,7 @@ module _ (half facing : HalfView) (rests : next_of half (own_progress half) ≡ 
 
 -- The loop
 
--- What both sides still do, with so many turns left that may do nothing, ends what they do from the beginning.
+-- What both sides still do, with this number of turns left that may do nothing, ends what they do from the beginning.
 pub record RelaysSo (setting : Setting) (begun now : RelayState) (side : Side) (left : ℕ) (parent child : HalfView) : Type 0 where
   pub apart : GoApart setting sides.Parent now parent child
   pub whole : (last : RelayState) (ending : RunEnding) → RelayTurns setting side left now last ending → RelayTurns setting sides.Parent 2 begun last ending
@@ -258,7 +258,7 @@ module _ (setting : Setting) (begun : RelayState) (side : Side) (left : ℕ) (pa
 
 -- A turn of the parent, and of the child
 
--- What a turn makes of the loop: it goes on, with less left; or it ends.
+-- What a turn makes of the loop: it continues, with less left; or it ends.
 abbrev pub LoopGives : Setting → RelayState → Side → ℕ → HalfView → HalfView → StepAnswer → HalfView → HalfView → Type 0
 LoopGives setting begun side left parent child answer.Did parent' child' = LoopsSo setting begun (other side) 2 parent' child' × (turns_left parent' child' 2 < turns_left parent child left)
 LoopGives setting begun side left parent child answer.Nothing parent' child' = LoopsSo setting begun (other side) (left - 1) parent' child' × (turns_left parent' child' (left - 1) < turns_left parent child left)

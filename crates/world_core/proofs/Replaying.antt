@@ -18,14 +18,14 @@ use Rattle.script_steps.proofs.Playing.{Chooses, chooses}
 use Rattle.script_steps.proofs.StepLines.{Prints, step-prints}
 use Rattle.script_steps.specs.Choices.{Choice, Setting, chosen}
 use Rattle.script_steps.specs.Turns.{RunEnding, at_limit, at_rest}
-use Rattle.transcript_laws.specs.Printed.{line_texts}
-use Rattle.transcript_laws.specs.TextLines.{text_lines, with_first}
-use Rattle.transcript_laws.specs.Told.{is_effect_text, side_told, tells_delivery}
-use Rattle.transcript_laws.proofs.Parts.{texts-append}
-use Rattle.transcript_reader.specs.declared.comparison.Alike.{Alike}
-use Rattle.transcript_reader.specs.declared.comparison.Alike.TheVariants as alike
-use Rattle.transcript_reader.specs.declared.comparison.Comparison.{Comparison}
-use Rattle.transcript_reader.specs.Compared.{DifferAtOnce, HasCompared, HasPassed}
+use Rattle.transcripts.specs.Printed.{line_texts}
+use Rattle.transcripts.specs.TextLines.{text_lines, with_first}
+use Rattle.transcripts.specs.Told.{is_effect_text, side_told, tells_delivery}
+use Rattle.transcripts.proofs.Parts.{texts-append}
+use Rattle.transcripts.specs.declared.comparison.LineMatch.{LineMatch}
+use Rattle.transcripts.specs.declared.comparison.LineMatch.TheVariants as alike
+use Rattle.transcripts.specs.declared.comparison.Comparison.{Comparison}
+use Rattle.transcripts.specs.Compared.{DifferAtOnce, HasCompared, HasPassed}
 use Rattle.world_core.specs.declared.world.replay.Replay.{Replay}
 use Rattle.world_core.specs.declared.world.replay.Replay.TheVariants as replay
 use Rattle.world_core.specs.Followed.{GoesOn, SaysEnding, choice_by, lines_seen}
@@ -33,10 +33,10 @@ use Rattle.world_core.specs.Replayed.{IsReplayed}
 use Rattle.world_core.specs.Turns.{IsChosen}
 use Rattle.world_core.specs.WorldView.{WorldView}
 use Rattle.world_core.specs.Worlds.{IsCase}
-use Rattle.world_core.proofs.Following.{BeginApart, HaveCommon, LeadsOn, all-follows, effect-apart, effect-leads, printed-behind, says-apart, says-longer, says-short, stuck-follows, told-none, tried-leads}
+use Rattle.world_core.proofs.Following.{BeginApart, HaveCommon, LeadsOn, all-follows, effect-apart, effect-leads, printed-following, says-apart, says-longer, says-short, stuck-follows, told-none, tried-leads}
 use Rattle.world_core.proofs.Trying.{IsTried}
 
--- What lines tell
+-- What lines report
 
 pub turn-told : (line : List ℕ) (turn : Turn) → side_told line ≡ Some turn.side → tells_delivery turn.side line ≡ turn.only_deliver → choice_told line ≡ Some (choice_by turn)
 turn-told line turn side delivers =
@@ -94,7 +94,7 @@ module _ (w : WorldView) (c : Comparison) (case : IsCase w) (passed : HasPassed 
   replayed-left left answer is h = subst (λ ls. IsReplayed w.setting (printed ++ ls) answer) (sym is) h
 
   -- a line that is not the text of an event, where one is to come
-  pub effect-replayed : (line : List ℕ) (rest : List (List ℕ)) → text_lines c.left.now ≡ line ∷ rest → choice_told line ≡ None → is_effect_text line ≡ true → IsReplayed w.setting (lines_seen w c) (replay.Apart c.lines)
+  pub effect-replayed : (line : List ℕ) (rest : List (List ℕ)) → text_lines c.left.now ≡ line ∷ rest → choice_told line ≡ None → is_effect_text line ≡ true → IsReplayed w.setting (lines_seen w c) (replay.Diverged c.lines)
   effect-replayed line rest is told effect =
       let l : LeadsOn w.setting (printed ++ line ∷ rest) w.state = effect-leads w.setting case.leading w.state case.plays line rest in
       let common : HaveCommon w.setting (printed ++ line ∷ rest) l.last c.lines = record {
@@ -103,17 +103,17 @@ module _ (w : WorldView) (c : Comparison) (case : IsCase w) (passed : HasPassed 
         others = line_texts w.setting.schema w.state.lines l.added;
         count_is = count-printed;
         lines_are = refl;
-        printed_are = printed-behind w.setting w.state l.last l.added l.behind;
+        printed_are = printed-following w.setting w.state l.last l.added l.following;
         apart = effect-apart w.setting.schema w.state.lines l.added line rest told l.begins;
-        no_end = λ e ends none behind same.
+        no_end = λ e ends none following same.
             let k : true ≡ false = sym effect ∙ ap is_effect_text (cons-head same) ∙ ending-is_event e in
             cc;
       } in
-      replayed-left (line ∷ rest) (replay.Apart c.lines) is
+      replayed-left (line ∷ rest) (replay.Diverged c.lines) is
       (record { last = l.last; follows = l.follows; says = says-apart w.setting (printed ++ line ∷ rest) l.last c.lines common line rest refl })
 
   -- a line whose choice is not possible
-  pub stuck-replayed : (choice : Choice) (line : List ℕ) (rest : List (List ℕ)) → text_lines c.left.now ≡ line ∷ rest → choice_told line ≡ Some choice → chosen w.setting choice w.state ≡ None → IsReplayed w.setting (lines_seen w c) (replay.Apart c.lines)
+  pub stuck-replayed : (choice : Choice) (line : List ℕ) (rest : List (List ℕ)) → text_lines c.left.now ≡ line ∷ rest → choice_told line ≡ Some choice → chosen w.setting choice w.state ≡ None → IsReplayed w.setting (lines_seen w c) (replay.Diverged c.lines)
   stuck-replayed choice line rest is told none =
       let common : HaveCommon w.setting (printed ++ line ∷ rest) w.state c.lines = record {
         front = printed;
@@ -123,15 +123,15 @@ module _ (w : WorldView) (c : Comparison) (case : IsCase w) (passed : HasPassed 
         lines_are = refl;
         printed_are = sym (append-nil printed);
         apart = tt;
-        no_end = λ e ends nil behind same.
+        no_end = λ e ends nil following same.
             let k : Some choice ≡ None = sym told ∙ ap choice_told (cons-head same) ∙ ending-tells e in
             cc;
       } in
-      replayed-left (line ∷ rest) (replay.Apart c.lines) is
+      replayed-left (line ∷ rest) (replay.Diverged c.lines) is
       (record { last = w.state; follows = stuck-follows w.setting case.leading w.state case.plays choice line rest told none; says = says-apart w.setting (printed ++ line ∷ rest) w.state c.lines common line rest refl })
 
   -- nothing is left
-  pub over-replayed : c.left.now ≡ [] → IsReplayed w.setting (lines_seen w c) (replay.Short c.lines)
+  pub over-replayed : c.left.now ≡ [] → IsReplayed w.setting (lines_seen w c) (replay.Incomplete c.lines)
   over-replayed none =
       let common : HaveCommon w.setting (printed ++ []) w.state c.lines = record {
         front = printed;
@@ -141,22 +141,22 @@ module _ (w : WorldView) (c : Comparison) (case : IsCase w) (passed : HasPassed 
         lines_are = refl;
         printed_are = sym (append-nil printed);
         apart = tt;
-        no_end = λ e ends nil behind same. let k : [] ≡ ending_line e ∷ behind = same in cc;
+        no_end = λ e ends nil following same. let k : [] ≡ ending_line e ∷ following = same in cc;
       } in
-      replayed-left [] (replay.Short c.lines) (ap text_lines none)
+      replayed-left [] (replay.Incomplete c.lines) (ap text_lines none)
       (record { last = w.state; follows = all-follows w.setting case.leading w.state case.plays [] refl; says = says-short w.setting (printed ++ []) w.state c.lines common refl })
 
-  -- A line that tells nothing, where the run may end
+  -- A line that reports nothing, where the run may end
 
-  module _ (line behind : List ℕ) (first : text_lines c.left.now ≡ line ∷ text_lines behind) (told : choice_told line ≡ None) (other : is_effect_text line ≡ false) where
-    follows-here : Follows w.setting (printed ++ line ∷ text_lines behind) w.state
-    follows-here = all-follows w.setting case.leading w.state case.plays (line ∷ text_lines behind) (told-none line (text_lines behind) told other)
+  module _ (line following : List ℕ) (first : text_lines c.left.now ≡ line ∷ text_lines following) (told : choice_told line ≡ None) (other : is_effect_text line ≡ false) where
+    follows-here : Follows w.setting (printed ++ line ∷ text_lines following) w.state
+    follows-here = all-follows w.setting case.leading w.state case.plays (line ∷ text_lines following) (told-none line (text_lines following) told other)
 
-    pub other-replayed : (SaysEnding w.setting w.state line → ⊥) → IsReplayed w.setting (lines_seen w c) (replay.Apart c.lines)
+    pub other-replayed : (SaysEnding w.setting w.state line → ⊥) → IsReplayed w.setting (lines_seen w c) (replay.Diverged c.lines)
     other-replayed none =
-        let common : HaveCommon w.setting (printed ++ line ∷ text_lines behind) w.state c.lines = record {
+        let common : HaveCommon w.setting (printed ++ line ∷ text_lines following) w.state c.lines = record {
           front = printed;
-          rest = line ∷ text_lines behind;
+          rest = line ∷ text_lines following;
           others = [];
           count_is = count-printed;
           lines_are = refl;
@@ -164,28 +164,28 @@ module _ (w : WorldView) (c : Comparison) (case : IsCase w) (passed : HasPassed 
           apart = tt;
           no_end = λ e ends nil more same. none (e, cons-head same, ends);
         } in
-        replayed-left (line ∷ text_lines behind) (replay.Apart c.lines) first
-        (record { last = w.state; follows = follows-here; says = says-apart w.setting (printed ++ line ∷ text_lines behind) w.state c.lines common line (text_lines behind) refl })
+        replayed-left (line ∷ text_lines following) (replay.Diverged c.lines) first
+        (record { last = w.state; follows = follows-here; says = says-apart w.setting (printed ++ line ∷ text_lines following) w.state c.lines common line (text_lines following) refl })
 
-    pub whole-replayed : SaysEnding w.setting w.state line → behind ≡ [] → IsReplayed w.setting (lines_seen w c) (replay.Whole c.events)
+    pub whole-replayed : SaysEnding w.setting w.state line → following ≡ [] → IsReplayed w.setting (lines_seen w c) (replay.Complete c.events)
     whole-replayed says none =
-        replayed-left (line ∷ text_lines behind) (replay.Whole c.events) first
+        replayed-left (line ∷ text_lines following) (replay.Complete c.events) first
         (record {
           last = w.state;
           follows = follows-here;
           says = ((says.0, says.2, ap (λ ls. printed ++ line ∷ ls) (ap text_lines none) ∙ ap (λ l. printed ++ l ∷ []) says.1), passed.events);
         })
 
-    pub longer-replayed : SaysEnding w.setting w.state line → behind ≢ [] → IsReplayed w.setting (lines_seen w c) (replay.Apart (c.lines + 1))
+    pub longer-replayed : SaysEnding w.setting w.state line → following ≢ [] → IsReplayed w.setting (lines_seen w c) (replay.Diverged (c.lines + 1))
     longer-replayed says some =
-        let more = some-lines behind some in
-        replayed-left (line ∷ text_lines behind) (replay.Apart (c.lines + 1)) first
+        let more = some-lines following some in
+        replayed-left (line ∷ text_lines following) (replay.Diverged (c.lines + 1)) first
         (record {
           last = w.state;
           follows = follows-here;
           says =
-              says-longer w.setting (printed ++ line ∷ text_lines behind) w.state says.0 more.0 more.1 (c.lines + 1) says.2
-              (ap (λ l. printed ++ l ∷ text_lines behind) says.1 ∙ sym (append_assoc printed (ending_line says.0 ∷ []) (text_lines behind)) ∙ ap (λ ls. (printed ++ ending_line says.0 ∷ []) ++ ls) more.2)
+              says-longer w.setting (printed ++ line ∷ text_lines following) w.state says.0 more.0 more.1 (c.lines + 1) says.2
+              (ap (λ l. printed ++ l ∷ text_lines following) says.1 ∙ sym (append_assoc printed (ending_line says.0 ∷ []) (text_lines following)) ∙ ap (λ ls. (printed ++ ending_line says.0 ∷ []) ++ ls) more.2)
               (ap (λ n. n + 1) count-printed);
         })
 
@@ -205,7 +205,7 @@ differ-left : (xs ys : List (List ℕ)) → DifferAtOnce xs ys → (x : List ℕ
 differ-left [] ys h = absurd h
 differ-left (x ∷ xs) ys h = (x, xs, refl)
 
--- A step of the run that a line tells of, and the comparison of its lines
+-- A step of the run that a line reports, and the comparison of its lines
 
 module _ (setting : Setting) (state next : RunState) (old new : Comparison) (case : IsCase (record { setting = setting; state = state })) (passed : HasPassed state.lines old) (line : List ℕ) (rest : List (List ℕ)) (choice : Choice) (first : text_lines old.left.now ≡ line ∷ rest)
     (told : choice_told line ≡ Some choice) (tried : IsTried setting choice state next) (more : List Line) (grows : next.lines ≡ state.lines ++ more) where
@@ -226,10 +226,10 @@ module _ (setting : Setting) (state next : RunState) (old new : Comparison) (cas
       let n = length-append so_far (line_texts setting.schema state.lines alike_lines) in
       omega (arith, a, b, n)
 
-  module _ (found : Alike) (c : HasCompared setting.schema state.lines more old found new) where
-    -- what is printed behind the lines that are alike
-    abbrev behind_them : List (List ℕ)
-    behind_them = line_texts setting.schema (state.lines ++ c.first) c.others ++ line_texts setting.schema next.lines leads.added
+  module _ (found : LineMatch) (c : HasCompared setting.schema state.lines more old found new) where
+    -- what is printed after the lines that are alike
+    abbrev after_them : List (List ℕ)
+    after_them = line_texts setting.schema (state.lines ++ c.first) c.others ++ line_texts setting.schema next.lines leads.added
 
     counted : new.lines ≡ length (alike_front c.first)
     counted =
@@ -243,20 +243,20 @@ module _ (setting : Setting) (state next : RunState) (old new : Comparison) (cas
 
     next-printed : printed_lines setting next ≡ alike_front c.first ++ line_texts setting.schema (state.lines ++ c.first) c.others
     next-printed =
-        printed-behind setting state next more grows ∙ ap (λ ls. so_far ++ line_texts setting.schema state.lines ls) c.split ∙ ap (λ ls. so_far ++ ls) (texts-append setting.schema state.lines c.first c.others)
+        printed-following setting state next more grows ∙ ap (λ ls. so_far ++ line_texts setting.schema state.lines ls) c.split ∙ ap (λ ls. so_far ++ ls) (texts-append setting.schema state.lines c.first c.others)
         ∙ sym (append_assoc so_far (line_texts setting.schema state.lines c.first) (line_texts setting.schema (state.lines ++ c.first) c.others))
 
-    last-printed : printed_lines setting leads.last ≡ alike_front c.first ++ behind_them
+    last-printed : printed_lines setting leads.last ≡ alike_front c.first ++ after_them
     last-printed =
-        printed-behind setting next leads.last leads.added leads.behind ∙ ap (λ ls. ls ++ line_texts setting.schema next.lines leads.added) next-printed
+        printed-following setting next leads.last leads.added leads.following ∙ ap (λ ls. ls ++ line_texts setting.schema next.lines leads.added) next-printed
         ∙ append_assoc (alike_front c.first) (line_texts setting.schema (state.lines ++ c.first) c.others) (line_texts setting.schema next.lines leads.added)
 
-    common-so : BeginApart (text_lines new.left.now) behind_them → ((e : RunEnding) → behind_them ≡ [] → (others : List (List ℕ)) → text_lines new.left.now ≡ ending_line e ∷ others → ⊥)
+    common-so : BeginApart (text_lines new.left.now) after_them → ((e : RunEnding) → after_them ≡ [] → (others : List (List ℕ)) → text_lines new.left.now ≡ ending_line e ∷ others → ⊥)
         → HaveCommon setting (so_far ++ text_lines old.left.now) leads.last new.lines
     common-so apart none = record {
       front = alike_front c.first;
       rest = text_lines new.left.now;
-      others = behind_them;
+      others = after_them;
       count_is = counted;
       lines_are = seen-so;
       printed_are = last-printed;
@@ -265,15 +265,15 @@ module _ (setting : Setting) (state next : RunState) (old new : Comparison) (cas
     }
 
   -- the text is over
-  pub step-over : HasCompared setting.schema state.lines more old alike.Over new → IsReplayed setting (so_far ++ text_lines old.left.now) (replay.Short new.lines)
+  pub step-over : HasCompared setting.schema state.lines more old alike.Over new → IsReplayed setting (so_far ++ text_lines old.left.now) (replay.Incomplete new.lines)
   unfolding common-so
   step-over c =
       let over : text_lines new.left.now ≡ [] = ap text_lines c.ends.1 in
-      let common = common-so alike.Over c (subst (λ ls. BeginApart ls (behind_them alike.Over c)) (sym over) tt) (λ e nil others same. let k : [] ≡ ending_line e ∷ others = sym over ∙ same in cc) in
+      let common = common-so alike.Over c (subst (λ ls. BeginApart ls (after_them alike.Over c)) (sym over) tt) (λ e nil others same. let k : [] ≡ ending_line e ∷ others = sym over ∙ same in cc) in
       record { last = leads.last; follows = leads.follows; says = says-short setting (so_far ++ text_lines old.left.now) leads.last new.lines common over }
 
   -- it has another line
-  pub step-other : HasCompared setting.schema state.lines more old alike.Other new → IsReplayed setting (so_far ++ text_lines old.left.now) (replay.Apart new.lines)
+  pub step-other : HasCompared setting.schema state.lines more old alike.Other new → IsReplayed setting (so_far ++ text_lines old.left.now) (replay.Diverged new.lines)
   unfolding common-so
   step-other c =
       let texts : List (List ℕ) = line_texts setting.schema (state.lines ++ c.first) c.others in
@@ -289,7 +289,7 @@ module _ (setting : Setting) (state next : RunState) (old new : Comparison) (cas
   step-goes c event effects some =
       let none = c.ends.0 in
       let whole : more ≡ c.first = c.split ∙ ap (λ ls. c.first ++ ls) c.ends.0 ∙ append-nil c.first in
-      let printed : printed_lines setting next ≡ alike_front c.first = printed-behind setting state next more grows ∙ ap alike_front whole in
+      let printed : printed_lines setting next ≡ alike_front c.first = printed-following setting state next more grows ∙ ap alike_front whole in
       let long : length (text_lines old.left.now) ≡ length c.first + length (text_lines new.left.now) =
       ap length c.is ∙ length-append (line_texts setting.schema state.lines c.first) (text_lines new.left.now) ∙ ap (λ n. n + length (text_lines new.left.now)) (texts-long setting.schema state.lines c.first)
       in

@@ -3,7 +3,7 @@ use Rattle.std.proofs.Common.{◌≡◌, ℕ, suc, ◌+◌, ◌-◌, ◌*◌, �
 use Rattle.ipdl_base.specs.declared.kinds.Side.{Side}
 use Rattle.ipdl_base.specs.declared.kinds.Side.TheVariants as sides
 use Rattle.ipdl_base.specs.declared.line.Line.{Line}
-use Rattle.channel_model.specs.Numbers.{other}
+use Rattle.ipdl_base.specs.Sides.{other}
 use Rattle.channel_model.specs.Runs.{RunState}
 use Rattle.schedules.specs.declared.turn.Turn.{Turn}
 use Rattle.script_steps.specs.Choices.{Choice, Setting, is_within, may_deliver, own_event}
@@ -17,7 +17,7 @@ use Rattle.world_core.specs.Worlds.{IsCase, IsLawful}
 pub grows-then : (a b c : List Line) → GrowsTo a b → GrowsTo b c → GrowsTo a c
 grows-then a b c h k = (h.0 ++ k.0, k.1 ∙ ap (λ (ls : List Line). ls ++ k.0) h.1 ∙ append_assoc a h.0 k.0)
 
--- What both sides still do, with so many turns left that may do nothing, ends what they do from the beginning.
+-- What both sides still do, with this number of turns left that may do nothing, ends what they do from the beginning.
 pub record RestsSo (begun now : WorldView) (side : Side) (left : ℕ) : Type 0 where
   pub same : now.setting ≡ begun.setting
   pub grows : GrowsTo begun.state.lines now.state.lines

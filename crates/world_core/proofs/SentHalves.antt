@@ -11,7 +11,7 @@ use Rattle.script_parts.proofs.blocks.MessageBlocks.TheSendSync as message_block
 use Rattle.world_core.proofs.SentContainers.{containers}
 use Rattle.world_core.proofs.SentEnds.{end_send, line_send, values_field_send}
 use Rattle.world_core.proofs.SharedScripts.{schema_sync, script_sync}
-use Rattle.world_core.specs.contracts.counts.Counts as counts
+use Rattle.world_core.specs.contracts.counts.ScriptCounts as counts
 use Rattle.world_core.specs.contracts.counts.RunningRequest as running_requests
 use Rattle.world_core.specs.contracts.half.Half as halves
 use Rattle.world_core.specs.contracts.link.Link as links

@@ -8,7 +8,7 @@ use Rattle.ipdl_base.specs.declared.line.Line.{Line}
 use Rattle.ipdl_base.specs.declared.line.What.{What}
 use Rattle.ipdl_base.specs.Lines.{is_effect, same_side}
 use Rattle.channel_model.specs.Ends.{End, end_of, link_to}
-use Rattle.channel_model.specs.Numbers.{other}
+use Rattle.ipdl_base.specs.Sides.{other}
 use Rattle.channel_model.specs.Outputs.{line_at}
 use Rattle.channel_model.specs.Runs.{RunState}
 use Rattle.script_steps.proofs.Choosing.{HaveSides, choice-happens, plays-one, side-of}
@@ -22,7 +22,7 @@ use Rattle.world_core.proofs.Played.{ends-rest, other-side}
 -- Choices of a side were made: they added lines of it, and the other end stayed as it was.
 pub record RanAlone (side : Side) (from last : RunState) : Type 0 where
   pub lines : List Line
-  pub behind : last.lines ≡ from.lines ++ lines
+  pub following : last.lines ≡ from.lines ++ lines
   pub own : lines_of (other side) lines ≡ []
   pub rest : end_of (other side) last.world ≡ end_of (other side) from.world
   pub sides : HaveSides last.world
@@ -36,7 +36,7 @@ one-alone setting choice from next is sided =
     let own : e.side ≡ choice.side = side-of from.world choice.side sided in
     record {
       lines = h.output.lines;
-      behind = h.lines;
+      following = h.lines;
       own =
           ap (lines_of (other choice.side)) (p.lines ∙ ap (λ (s : Side). map (line_at s) (p.first ∷ p.rest)) own) ∙ lines_of-own choice.side (other choice.side) (p.first ∷ p.rest)
           ∙ ap (λ (b : Bool). cond b (p.first ∷ p.rest) []) (other-side choice.side);
@@ -47,14 +47,14 @@ one-alone setting choice from next is sided =
 pub all-alone : (setting : Setting) (side : Side) (choices : List Choice) (from last : RunState) → AllByRecursion (λ (c : Choice). c.side ≡ side) choices → played setting choices from ≡ Some last → HaveSides from.world → RanAlone side from last
 all-alone setting side [] from last all h sided =
     let same : from ≡ last = cc in
-    subst (RanAlone side from) same (record { lines = []; behind = sym (append-nil from.lines); own = refl; rest = refl; sides = sided })
+    subst (RanAlone side from) same (record { lines = []; following = sym (append-nil from.lines); own = refl; rest = refl; sides = sided })
 all-alone setting side (choice ∷ more) from last all h sided =
     let p : PlaysOn setting choice more from last = plays_on setting choice more from last h in
     let first : RanAlone side from p.next = subst (λ (s : Side). RanAlone s from p.next) all.0 (one-alone setting choice from p.next p.first sided) in
     let rest : RanAlone side p.next last = all-alone setting side more p.next last all.1 p.rest first.sides in
     record {
       lines = first.lines ++ rest.lines;
-      behind = rest.behind ∙ ap (λ (ls : List Line). ls ++ rest.lines) first.behind ∙ append_assoc from.lines first.lines rest.lines;
+      following = rest.following ∙ ap (λ (ls : List Line). ls ++ rest.lines) first.following ∙ append_assoc from.lines first.lines rest.lines;
       own = lines_of-append (other side) first.lines rest.lines ∙ ap (λ (ws : List What). ws ++ lines_of (other side) rest.lines) first.own ∙ rest.own;
       rest = rest.rest ∙ first.rest;
       sides = rest.sides;
@@ -80,7 +80,7 @@ first-of : (side : Side) (b : Bool) (choice : Choice) (rest : List Choice) → c
 first-of side true choice rest is all = all
 first-of side false choice rest is all = (is, all)
 
--- they tell of choices of the other side alone
+-- they report choices of the other side alone
 pub others-choose : (side : Side) (lines : List Line) → lines_of side lines ≡ [] → AllByRecursion (λ (c : Choice). c.side ≡ other side) (choices_of lines)
 others-choose side [] h = tt
 others-choose side (line ∷ lines) h =

@@ -10,13 +10,13 @@ use Rattle.ipdl_base.specs.declared.line.What.{What}
 use Rattle.ipdl_base.specs.declared.schema.Schema.{Schema}
 use Rattle.channel_model.specs.Ends.{end_of, link_to}
 use Rattle.channel_model.specs.Ends as model
-use Rattle.channel_model.specs.Numbers.{other}
+use Rattle.ipdl_base.specs.Sides.{other}
 use Rattle.channel_model.specs.Outputs.{Output, line_at}
 use Rattle.channel_model.specs.Runs.{RunState}
 use Rattle.channel_core.specs.EndView.{EndView, IsFramed, packet_of, packets_of}
 use Rattle.end_parts.specs.declared.packet.Packet.{Packet}
 use Rattle.script_runs.proofs.CaseRuns.{played-last}
-use Rattle.script_runs.proofs.Growth.{plays-behind}
+use Rattle.script_runs.proofs.Growth.{plays-following}
 use Rattle.script_steps.proofs.Choosing.{choices_are_read, side-of}
 use Rattle.script_steps.proofs.Counting.{progress-append}
 use Rattle.script_steps.proofs.Playing.{choices_grow}
@@ -26,7 +26,7 @@ use Rattle.script_steps.specs.Laws.{GoesOn}
 use Rattle.script_steps.specs.Progress.{Progress, after_lines, lines_of, progress_of}
 use Rattle.world_core.proofs.Chosen.{run-sides}
 use Rattle.world_core.proofs.OwnRuns.{IsPlayedAgain, play-again}
-use Rattle.world_core.proofs.Played.{all-append, chosen-is, ends-own, own-progress, puts, run_behind}
+use Rattle.world_core.proofs.Played.{all-append, chosen-is, ends-own, own-progress, puts, run_after}
 use Rattle.world_core.proofs.SideChoices.{RanAlone, all-alone, all-same, others-choose}
 use Rattle.world_core.proofs.Standing.{has-at, may-go-on-at, own-within, schema-at, step-at}
 use Rattle.world_core.specs.declared.answers.StepAnswer.{StepAnswer}
@@ -36,11 +36,11 @@ use Rattle.world_core.specs.declared.half.next.NextStep.TheVariants as next
 use Rattle.world_core.specs.HalfSteps.{IsOwnStep, MayGoOn, OwnGives, next_of}
 use Rattle.world_core.specs.HalfView.{HalfView, IsCountedBy, setting_of}
 use Rattle.world_core.specs.NextSteps.{IsNext}
-use Rattle.world_core.specs.Halves.{FitsBehind, HalvesFitBehindMore, IsSplit, StoredLinesFollow, own_choices}
+use Rattle.world_core.specs.Halves.{FitsAfter, HalvesFitAfterMore, IsSplit, StoredLinesFollow, own_choices}
 use Rattle.world_core.specs.LinkView.{LinkView}
 
--- what a half has stored stands behind the lines that it fits
-pub reached : (setting : Setting) (side : Side) (seen : List Line) (half : HalfView) (fits : FitsBehind setting side seen half) → fits.to.lines ≡ seen ++ half.end.lines
+-- what a half has stored is after the lines that it fits
+pub reached : (setting : Setting) (side : Side) (seen : List Line) (half : HalfView) (fits : FitsAfter setting side seen half) → fits.to.lines ≡ seen ++ half.end.lines
 reached setting side seen half fits = fits.stored.lines ∙ ap (λ (ls : List Line). ls ++ half.end.lines) fits.is_seen
 
 -- and that is a history of the script
@@ -48,27 +48,27 @@ pub stored_lines_follow : StoredLinesFollow
 stored_lines_follow setting side seen half fits = record { choices = fits.come.choices; state = fits.to; plays = fits.come.plays; made = reached setting side seen half fits }
 
 -- What a half has stored is of its side.
-pub stored-own : (setting : Setting) (side : Side) (seen : List Line) (half : HalfView) → FitsBehind setting side seen half → lines_of (other side) half.end.lines ≡ []
+pub stored-own : (setting : Setting) (side : Side) (seen : List Line) (half : HalfView) → FitsAfter setting side seen half → lines_of (other side) half.end.lines ≡ []
 stored-own setting side seen half fits =
     let alone : RanAlone side fits.from fits.to =
     all-alone setting side (own_choices side fits.stored.count) fits.from fits.to (all-same side false fits.stored.count) fits.stored.plays (run-sides setting fits.leading fits.from fits.leads) in
-    ap (lines_of (other side)) (append_cancel_left fits.from.lines half.end.lines alone.lines (sym fits.stored.lines ∙ alone.behind)) ∙ alone.own
+    ap (lines_of (other side)) (append_cancel_left fits.from.lines half.end.lines alone.lines (sym fits.stored.lines ∙ alone.following)) ∙ alone.own
 
 -- Own steps
 
-same-at : (setting : Setting) (side : Side) (seen : List Line) (half : HalfView) (fits : FitsBehind setting side seen half) → progress_of side fits.to.lines ≡ progress_of side (seen ++ half.end.lines)
+same-at : (setting : Setting) (side : Side) (seen : List Line) (half : HalfView) (fits : FitsAfter setting side seen half) → progress_of side fits.to.lines ≡ progress_of side (seen ++ half.end.lines)
 same-at setting side seen half fits = ap (progress_of side) (reached setting side seen half fits)
 
--- a half that fits behind lines may go on
-pub may-go-on-behind : (setting : Setting) (side : Side) (seen : List Line) (half : HalfView) → FitsBehind setting side seen half → MayGoOn half (progress_of side (seen ++ half.end.lines))
-may-go-on-behind setting side seen half fits = subst (λ (p : Progress). MayGoOn half p) (same-at setting side seen half fits) (may-go-on-at setting fits.to side half fits.come)
+-- a half that fits after lines may go on
+pub may-go-on-following : (setting : Setting) (side : Side) (seen : List Line) (half : HalfView) → FitsAfter setting side seen half → MayGoOn half (progress_of side (seen ++ half.end.lines))
+may-go-on-following setting side seen half fits = subst (λ (p : Progress). MayGoOn half p) (same-at setting side seen half fits) (may-go-on-at setting fits.to side half fits.come)
 
-goes-on : (setting : Setting) (side : Side) (seen : List Line) (half after : HalfView) (fits : FitsBehind setting side seen half) → IsOwnStep half (progress_of side fits.to.lines) after → FitsBehind setting side seen after
+goes-on : (setting : Setting) (side : Side) (seen : List Line) (half after : HalfView) (fits : FitsAfter setting side seen half) → IsOwnStep half (progress_of side fits.to.lines) after → FitsAfter setting side seen after
 goes-on setting side seen half after fits own =
     let to : RunState = fits.to in
     let output : Output = own.steps.output in
     let choice : Choice = record { side = side; delivers = false } in
-    let last : RunState = run_behind side to own.event output in
+    let last : RunState = run_after side to own.event output in
     let is = step-at setting to side half fits.come after own in
     let chosen = chosen-is setting choice to own.event output (own-within setting to side half fits.come after own) (has-at setting to side half fits.come after own) is in
     let prints : Prints (end_of side to.world) own.event output = step-prints setting.schema (end_of side to.world) (link_to side to.world) own.event output is in
@@ -88,8 +88,8 @@ goes-on setting side seen half after fits own =
         choices = fits.come.choices ++ choice ∷ [];
         plays = played-last setting fits.come.choices choice (beginning_of setting) to last fits.come.plays chosen.0;
         about =
-            ap setting_of own.steps.same ∙ ap (λ (s : Schema). record { schema = s; script = half.script; stop = half.stop; limit = half.limit }) (ap (λ (v : EndView). v.schema) own.steps.is_behind) ∙ fits.come.about;
-        end = ap (λ (v : EndView). v.end) own.steps.is_behind ∙ sym (ends-own side to own.event output);
+            ap setting_of own.steps.same ∙ ap (λ (s : Schema). record { schema = s; script = half.script; stop = half.stop; limit = half.limit }) (ap (λ (v : EndView). v.schema) own.steps.is_after) ∙ fits.come.about;
+        end = ap (λ (v : EndView). v.end) own.steps.is_after ∙ sym (ends-own side to own.event output);
         counted = subst (λ (p : Progress). IsCountedBy after p) (sym (own-progress side to.lines output.lines (prints.first ∷ prints.rest) are)) own.steps.counted;
       };
       stored = record {
@@ -99,26 +99,26 @@ goes-on setting side seen half after fits own =
             (played-last setting (own_choices side fits.stored.count) choice fits.from to last fits.stored.plays chosen.0);
         lines =
             ap (λ (ls : List Line). ls ++ output.lines) fits.stored.lines ∙ append_assoc fits.from.lines half.end.lines output.lines
-            ∙ ap (λ (ls : List Line). fits.from.lines ++ ls) (sym (ap (λ (v : EndView). v.lines) own.steps.is_behind));
+            ∙ ap (λ (ls : List Line). fits.from.lines ++ ls) (sym (ap (λ (v : EndView). v.lines) own.steps.is_after));
         sent = fits.stored.sent ++ output.packets;
         away =
             puts side to own.event output ∙ ap (λ (ps : List model.Packet). ps ++ output.packets) fits.stored.away
             ∙ append_assoc (link_to (other side) fits.from.world) fits.stored.sent output.packets;
         packets =
-            ap (λ (v : EndView). v.packets) own.steps.is_behind ∙ ap (λ (ps : List Packet). ps ++ packets_of half.end.schema output.packets) fits.stored.packets
+            ap (λ (v : EndView). v.packets) own.steps.is_after ∙ ap (λ (ps : List Packet). ps ++ packets_of half.end.schema output.packets) fits.stored.packets
             ∙ ap (λ (s : Schema). packets_of setting.schema fits.stored.sent ++ packets_of s output.packets) schema
             ∙ sym (map-append (packet_of setting.schema) fits.stored.sent output.packets);
         framed = all-append setting.schema fits.stored.sent output.packets fits.stored.framed (subst (λ (s : Schema). AllByRecursion (IsFramed s) output.packets) schema own.steps.framed);
       };
     }
 
--- behind an own step, or where none was made, a half fits where it did
-pub own-fits : (setting : Setting) (side : Side) (seen : List Line) (half after : HalfView) (a : StepAnswer) → FitsBehind setting side seen half → OwnGives half (progress_of side (seen ++ half.end.lines)) a after → FitsBehind setting side seen after
+-- after an own step, or where none was made, a half fits where it did
+pub own-fits : (setting : Setting) (side : Side) (seen : List Line) (half after : HalfView) (a : StepAnswer) → FitsAfter setting side seen half → OwnGives half (progress_of side (seen ++ half.end.lines)) a after → FitsAfter setting side seen after
 own-fits setting side seen half after answer.Did fits h =
     goes-on setting side seen half after fits (subst (λ (p : Progress). IsOwnStep half p after) (sym (same-at setting side seen half fits)) h)
-own-fits setting side seen half after answer.Nothing fits h = subst (FitsBehind setting side seen) (sym h.1) fits
-own-fits setting side seen half after (answer.Spent s) fits h = subst (FitsBehind setting side seen) (sym h.3) fits
-own-fits setting side seen half after answer.NoMemory fits h = subst (FitsBehind setting side seen) (sym h) fits
+own-fits setting side seen half after answer.Nothing fits h = subst (FitsAfter setting side seen) (sym h.1) fits
+own-fits setting side seen half after (answer.Spent s) fits h = subst (FitsAfter setting side seen) (sym h.3) fits
+own-fits setting side seen half after answer.NoMemory fits h = subst (FitsAfter setting side seen) (sym h) fits
 
 -- it rests where nothing is next
 pub some-is-next : (half : HalfView) (progress : Progress) (step : Option NextStep) → IsNext half progress step → is_some step ≡ is_some (next_of half progress)
@@ -163,9 +163,9 @@ others-pass setting side leading from others history leads none =
       progress = ap (progress_of side) history.made ∙ progress-append side from.lines others ∙ ap (λ (ws : List What). after_lines (progress_of side from.lines) ws) none;
     }
 
--- A half that fits behind lines fits behind more lines of the other side too, where these are a history of the script.
-pub halves_fit_behind_more : HalvesFitBehindMore
-halves_fit_behind_more setting side seen others half fits none history =
+-- A half that fits after lines fits after more lines of the other side too, where these are a history of the script.
+pub halves_fit_after_more : HalvesFitAfterMore
+halves_fit_after_more setting side seen others half fits none history =
     let known : IsCaseHistory setting (fits.from.lines ++ others) = subst (λ (ls : List Line). IsCaseHistory setting (ls ++ others)) (sym fits.is_seen) history in
     let stands : StandsAlike side fits.from known.state = others-pass setting side fits.leading fits.from others known fits.leads none in
     let again : IsPlayedAgain setting side (own_choices side fits.stored.count) fits.from fits.to known.state = play-again setting side fits.stored.count fits.from fits.to known.state fits.stored.plays stands.end stands.progress in
@@ -182,7 +182,7 @@ halves_fit_behind_more setting side seen others half fits none history =
         valid = fits.come.valid;
         small = fits.come.small;
         choices = known.choices ++ own_choices side fits.stored.count;
-        plays = plays-behind setting known.choices (own_choices side fits.stored.count) (beginning_of setting) known.state again.to known.plays again.plays;
+        plays = plays-following setting known.choices (own_choices side fits.stored.count) (beginning_of setting) known.state again.to known.plays again.plays;
         about = fits.come.about;
         end = fits.come.end ∙ sym again.alike.end;
         counted = subst (λ (p : Progress). IsCountedBy half p) (sym again.alike.progress) fits.come.counted;

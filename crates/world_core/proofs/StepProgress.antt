@@ -45,7 +45,7 @@ delivery-makes what.DeliverGoodbye h p = refl
 delivery-makes what.DeliverBroken h p = refl
 delivery-makes _ h p = cc
 
--- Lines of effects behind it
+-- Lines of effects after it
 
 skip : (b : Bool) (x y : Progress) → b ≡ false → (if b then x else y) ≡ y
 skip true x y h = cc

@@ -17,7 +17,7 @@ use Rattle.script_steps.specs.Progress.{HandledRequest, Progress, after_lines}
 use Rattle.world_core.specs.HalfView.{whats_of}
 use Rattle.world_core.proofs.StepProgress.{whats-at}
 
--- a request as it is taken, behind those that were taken
+-- a request as it is taken, after those that were taken
 abbrev pub taken_request : Message → Values → List ℕ → HandledRequest
 taken_request m vs taken = record { seq = m.seq; number = m.number; block = count_of m.number taken; acts = 0; given = vs; made = m.made }
 

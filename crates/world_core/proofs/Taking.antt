@@ -16,7 +16,7 @@ use Rattle.ipdl_base.specs.Sound.{message_of}
 use Rattle.pending_queue.specs.declared.item.Item.{Item}
 use Rattle.pending_queue.specs.declared.item.Item.TheVariants as item
 use Rattle.script_parts.specs.declared.blocks.BlockTable.{BlockTable}
-use Rattle.script_parts.specs.Tables.{IsTableOf, block_behind}
+use Rattle.script_parts.specs.Tables.{IsTableOf, block_after}
 use Rattle.value_types.specs.Fits.{IsMadeBy}
 use Rattle.channel_model.specs.Ends.{Resolver, StackEntry}
 use Rattle.channel_model.specs.Events as event
@@ -156,7 +156,7 @@ event-only shut before after none is = is
 event-only nothing before after none is = absurd is
 
 module _ (script : Script) (side : Side) (p : Progress) (before after : CountsView) (m : Message) (row : MessageRow) (vs : Values) (has : HasBegun before m row vs after) where
-  -- a request whose handler begins runs behind it
+  -- a request whose handler begins runs after the take
   begun-counted : AreCountsOf script side p before → AreCountsOf script side (with_taken m vs p) after
   begun-counted counted =
       let served = has.serves script.blocks side p.taken counted.table in
@@ -168,7 +168,7 @@ module _ (script : Script) (side : Side) (p : Progress) (before after : CountsVi
         running = (record { block = served.1; acts = refl; given = refl; made = refl }, counted.running);
       })
 
--- the resolvers behind a take: one more where it handles a request
+-- the resolvers after a take: one more where it handles a request
 take-resolvers : (k : TakeKind) (before after : CountsView) (entries : List StackEntry) → IsCountedTake k before after → map (λ (r : RunningView). r.resolver) before.running ≡ map resolver_of entries
     → map (λ (r : RunningView). r.resolver) after.running ≡ map resolver_of (cons_option (added_by k) entries)
 take-resolvers (handle m row vs) before after entries is held = ap (λ (c : CountsView). map (λ (r : RunningView). r.resolver) c.running) is.is ∙ ap (λ (rs : List (Option Resolver)). resolver_for m row ∷ rs) held
@@ -227,10 +227,10 @@ take-gives before after p counted fits answer.NoMemory h = h
 
 -- Counts as the code keeps them
 
--- the request that is handled stands last, in the block that the table gives
+-- the request that is handled is last, in the block that the table gives
 pub handle-counts : (before after : CountsView) (k : TakeKind) (h : Handling) (block : Option ℕ) (table : BlockTable) (xs : List RunningRequest) (r : RunningRequest) → IsKindOf k (take.Handle h) → before.running ≡ map view_of (reverse xs)
     → view_of r ≡ record { block = block; acts = 0; given = plain_values h.values; made = h.made; resolver = h.resolver }
-    → ((blocks : List Block) (side : Side) (taken : List ℕ) → IsTableOf blocks side taken before.table → IsTableOf blocks side (h.number ∷ taken) table × (option_and_then (slice_get blocks) block ≡ block_behind blocks side h.number taken))
+    → ((blocks : List Block) (side : Side) (taken : List ℕ) → IsTableOf blocks side taken before.table → IsTableOf blocks side (h.number ∷ taken) table × (option_and_then (slice_get blocks) block ≡ block_after blocks side h.number taken))
     → after ≡ with_event (record before { table = table; running = map view_of (reverse (xs ++ r ∷ [])) }) → IsCountedTake k before after
 handle-counts before after (handle m row vs) h block table xs r is running begins serves counts =
     let number : h.number ≡ m.number = is.number in
@@ -240,7 +240,7 @@ handle-counts before after (handle m row vs) h block table xs r is running begin
     (record {
       block = block;
       serves = subst
-          (λ (n : ℕ). (blocks : List Block) (side : Side) (taken : List ℕ) → IsTableOf blocks side taken before.table → IsTableOf blocks side (n ∷ taken) table × (option_and_then (slice_get blocks) block ≡ block_behind blocks side n taken)) number serves;
+          (λ (n : ℕ). (blocks : List Block) (side : Side) (taken : List ℕ) → IsTableOf blocks side taken before.table → IsTableOf blocks side (n ∷ taken) table × (option_and_then (slice_get blocks) block ≡ block_after blocks side n taken)) number serves;
       is = ap (λ (rs : List RunningView). with_event (record before { table = table; running = rs })) running_is;
     })
 handle-counts before after drop h block table xs r is running begins serves counts = absurd is

@@ -1,4 +1,4 @@
--- What turns tell of the choices that they stand for, and of sides that are quiet or spent.
+-- What turns show of the choices that they represent, and of sides that are quiet or spent.
 use Rattle.std.proofs.Common.{◌≡◌, ℕ, ◌≤◌, Bool, true, false, not, ◌&&◌, if◌then◌else◌, List, Option, Some, None, Result, Ok, Err, get_or, is_some, option_and_then, inl, inr, ◌⊎◌, refl, sym, ap, subst, ◌∙◌, arith}
 use Rattle.std.specs.Prelude.{IfOk}
 use Rattle.std.specs.Bool.{Decides}
@@ -12,11 +12,11 @@ use Rattle.channel_model.specs.Runs.{RunState}
 use Rattle.schedules.specs.declared.turn.Turn.{Turn}
 use Rattle.script_runs.specs.Laws.{EventsArePossible, HasLimit}
 use Rattle.script_runs.proofs.Possible.{script_events_are_possible}
-use Rattle.script_steps.specs.Choices.{Setting, Choice, behind_event, beginning_of, chosen, event_by, is_doable, is_within, may_deliver, own_event, played}
+use Rattle.script_steps.specs.Choices.{Setting, Choice, following_event, beginning_of, chosen, event_by, is_doable, is_within, may_deliver, own_event, played}
 use Rattle.script_steps.specs.Turns.{RunEnding, at_limit, at_rest, delivery_choice, exceeds, idles, is_quiet_at, leads, led_to, outcome, outcome_by, turn_choice, whole_turn}
 use Rattle.script_runs.specs.Endings.{EndsAs, ending_line}
-use Rattle.transcript_reader.specs.declared.line.Ending.TheVariants as words
-use Rattle.transcript_reader.specs.Lines.{EndingIs}
+use Rattle.transcripts.specs.declared.line.Ending.TheVariants as words
+use Rattle.transcripts.specs.Lines.{EndingIs}
 use Rattle.world_core.specs.declared.answers.StepAnswer.{StepAnswer}
 use Rattle.world_core.specs.declared.answers.StepAnswer.TheVariants as step
 use Rattle.world_core.specs.Followed.{SaysEnding, choice_by}
@@ -24,7 +24,7 @@ use Rattle.world_core.specs.Turns.{TurnGives}
 use Rattle.world_core.specs.WorldView.{WorldView}
 use Rattle.world_core.specs.Worlds.{most_events}
 
--- What an outcome tells
+-- What an outcome shows
 
 record Led (setting : Setting) (turn : Turn) (state next : RunState) : Type 0 where
   choice : Choice
@@ -71,14 +71,14 @@ full setting turn state h = full-by setting turn state (turn_choice setting turn
 
 none-within : (setting : Setting) (choice : Choice) (state : RunState) → is_within setting choice.side state ≡ false → chosen setting choice state ≡ None
 none-within setting choice state h =
-    ap (λ (b : Bool). if b then option_and_then (λ x. if is_doable setting choice.side state x then Some (behind_event setting choice.side state x) else None) (event_by setting choice state) else None) h
+    ap (λ (b : Bool). if b then option_and_then (λ x. if is_doable setting choice.side state x then Some (following_event setting choice.side state x) else None) (event_by setting choice state) else None) h
 
 none-event : (setting : Setting) (choice : Choice) (state : RunState) → event_by setting choice state ≡ None → chosen setting choice state ≡ None
 none-event setting choice state h =
-    ap (λ (o : Option Event). if is_within setting choice.side state then option_and_then (λ x. if is_doable setting choice.side state x then Some (behind_event setting choice.side state x) else None) o else None) h
+    ap (λ (o : Option Event). if is_within setting choice.side state then option_and_then (λ x. if is_doable setting choice.side state x then Some (following_event setting choice.side state x) else None) o else None) h
     ∙ both (is_within setting choice.side state)
   where
-    both : (b : Bool) → (if b then option_and_then (λ x. if is_doable setting choice.side state x then Some (behind_event setting choice.side state x) else None) None else None) ≡ None
+    both : (b : Bool) → (if b then option_and_then (λ x. if is_doable setting choice.side state x then Some (following_event setting choice.side state x) else None) None else None) ≡ None
     both true = refl
     both false = refl
 
@@ -93,7 +93,7 @@ some-none x h = cc
 abbrev choice-so : Turn → RunState → Bool → Bool → Option Choice
 choice-so turn state only own = if not only && own then Some (record { side = turn.side; delivers = false }) else delivery_choice turn.side state
 
--- the turn's choice is the one that it stands for, or that one has no event
+-- the turn's choice is the one that it represents, or that one has no event
 chooses-own : (setting : Setting) (turn : Turn) (state : RunState) (choice : Choice) (only own may : Bool) → turn.only_deliver ≡ only → is_some (own_event setting turn.side state) ≡ own → may_deliver turn.side state.world ≡ may
     → choice-so turn state only own ≡ Some choice → (choice ≡ choice_by turn) ⊎ (event_by setting (choice_by turn) state ≡ None)
 chooses-own setting turn state choice true own true only_is own_is may_is h =
@@ -127,7 +127,7 @@ small-limit setting h = omega (arith, h)
 abbrev pub IsTried : Setting → Choice → RunState → RunState → Type 0
 IsTried setting choice state next = (chosen setting choice state ≡ Some next) ⊎ ((chosen setting choice state ≡ None) × ((other : Choice) × (chosen setting other state ≡ Some next)))
 
--- a turn that led on has tried what it stands for
+-- a turn that led on has tried what it represents
 pub tried : (setting : Setting) (turn : Turn) (state next : RunState) (choices : List Choice) → IsSound setting.schema → IsValid setting.schema setting.script → setting.limit ≤ most_events → played setting choices (beginning_of setting) ≡ Some state
     → outcome setting turn state ≡ leads next → IsTried setting (choice_by turn) state next
 tried setting turn state next choices sound valid small plays h =
@@ -140,7 +140,7 @@ tried setting turn state next choices sound valid small plays h =
     by choice goes (inl same) = inl (ap (λ c. chosen setting c state) (sym same) ∙ goes)
     by choice goes (inr none) = inr (none-event setting (choice_by turn) state none, (choice, goes))
 
--- a turn that does nothing stands for nothing that is possible
+-- a turn that does nothing represents nothing that is possible
 pub idle-none : (setting : Setting) (turn : Turn) (state : RunState) → outcome setting turn state ≡ idles → chosen setting (choice_by turn) state ≡ None
 idle-none setting turn state h =
     none-event setting (choice_by turn) state (chooses-none setting turn state turn.only_deliver (is_some (own_event setting turn.side state)) (may_deliver turn.side state.world) refl refl refl (idle setting turn state h))
@@ -148,7 +148,7 @@ idle-none setting turn state h =
 pub full-none : (setting : Setting) (turn : Turn) (state : RunState) → outcome setting turn state ≡ exceeds → chosen setting (choice_by turn) state ≡ None
 full-none setting turn state h = none-within setting (choice_by turn) state (full setting turn state h)
 
--- What outcomes of whole turns tell of a side
+-- What outcomes of whole turns show of a side
 
 -- what a whole turn chooses where the side has a step of its own or not, and a delivery or not
 abbrev choice-at : Side → Bool → Bool → Option Choice
@@ -185,7 +185,7 @@ led-not_spent setting state next side h k = let l = led setting (whole_turn side
 pub idle-not_spent : (setting : Setting) (state : RunState) (side : Side) → outcome setting (whole_turn side) state ≡ idles → EndsAs setting state (at_limit side) → ⊥
 idle-not_spent setting state side h k = let e : true ≡ false = sym (idle-quiet setting state side h) ∙ k.1 in cc
 
--- What a world's turns tell
+-- What the turns of a world show
 
 pub did-or-spent : (before after : WorldView) (turn : Turn) (side : Side) (answer : StepAnswer) → turn ≡ whole_turn side → TurnGives before turn answer after → (answer ≡ step.Did) ⊎ ((s : Side) × (answer ≡ step.Spent s)) → is_quiet_at before.setting before.state side ≡ false
 did-or-spent before after turn side answer whole h (inl e) =
@@ -203,7 +203,7 @@ did-or-idle before after turn side answer whole h (inr e) =
     let g = subst (λ (a : StepAnswer). TurnGives before turn a after) e h in
     idle-not_spent before.setting before.state side (subst (λ (t : Turn). outcome before.setting t before.state ≡ idles) whole g.0)
 
--- a turn that does nothing, or has its side at the limit, stands for no choice that is possible
+-- a turn that does nothing, or has its side at the limit, represents no choice that is possible
 pub none-done : (before after : WorldView) (turn : Turn) (answer : StepAnswer) → TurnGives before turn answer after → (answer ≡ step.Nothing) ⊎ ((s : Side) × (answer ≡ step.Spent s)) → chosen before.setting (choice_by turn) before.state ≡ None
 none-done before after turn answer h (inl e) = let g = subst (λ (a : StepAnswer). TurnGives before turn a after) e h in idle-none before.setting turn before.state g.0
 none-done before after turn answer h (inr e) = let g = subst (λ (a : StepAnswer). TurnGives before turn a after) e.1 h in full-none before.setting turn before.state g.0

@@ -3,7 +3,7 @@ use Rattle.std.proofs.Common.{◌≡◌, nat_lt, Bool, true, false, not, ◌&&�
 use Rattle.ipdl_base.specs.declared.kinds.Side.{Side}
 use Rattle.ipdl_base.specs.declared.kinds.Side.TheVariants as sides
 use Rattle.channel_model.specs.Ends.{End, end_of, link_to}
-use Rattle.channel_model.specs.Numbers.{other}
+use Rattle.ipdl_base.specs.Sides.{other}
 use Rattle.channel_model.specs.Runs.{RunState, after_event, is_delivery}
 use Rattle.channel_model.specs.Steps.{step}
 use Rattle.channel_core.specs.EndView.{packets_of}
@@ -28,7 +28,7 @@ same-link : (side : Side) (link : LinkView) → with_packets_to side (packets_to
 same-link sides.Parent link = refl
 same-link sides.Child link = refl
 
--- a half that stands on its link has come to its state
+-- a half that is on its link has come to its state
 pub stands-come : (at : WorldView) (side : Side) (half : HalfView) (link : LinkView) → StandsIn at side half link → HasComeTo at.setting at.state side half
 stands-come at side half link stands = record {
   sound = stands.run.sound;

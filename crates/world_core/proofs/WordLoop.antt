@@ -65,7 +65,7 @@ picks-stop begun now word rest r = r.in_part now.state (part.word_stops rest now
 pub rest-at : (word : List Turn) (i : ℕ) (d : Turn) → i < length word → drop i word ≡ get_or word i d ∷ drop (i + 1) word
 rest-at word i d h = drop-cons word i d h ∙ ap (λ (n : ℕ). get_or word i d ∷ drop n word) (sym (add-one i))
 
--- Behind a word
+-- After a word
 
 pub stands-so : (now next : WorldView) (answer : RunAnswer) → WordGives now [] answer next → next.setting ≡ now.setting → IsSpentAt next answer → IsCase next → IsSound next.setting.schema → StandsAs next answer
 stands-so now next run.Finished h same spent case_is sound =

@@ -1,10 +1,10 @@
--- A world behind a turn of one of its halves.
+-- A world after a turn of one of its halves.
 use Rattle.std.proofs.Common.{◌≡◌, List, Option, Some, refl, sym, ap, subst, ◌∙◌, unwrap_or}
 use Rattle.ipdl_base.specs.declared.kinds.Side.{Side}
 use Rattle.ipdl_base.specs.declared.kinds.Side.TheVariants as sides
 use Rattle.ipdl_base.specs.declared.line.Line.{Line}
 use Rattle.channel_model.specs.Ends.{end_of}
-use Rattle.channel_model.specs.Numbers.{other}
+use Rattle.ipdl_base.specs.Sides.{other}
 use Rattle.channel_model.specs.Runs.{RunState}
 use Rattle.script_steps.proofs.Choosing.{choices_are_read}
 use Rattle.schedules.specs.declared.turn.Turn.{Turn}
@@ -20,7 +20,7 @@ use Rattle.world_core.specs.Turns.{TurnGives}
 use Rattle.world_core.specs.WorldView.{WorldView, seen_by, state_of}
 use Rattle.world_core.specs.Worlds.{IsHalfOf, IsRun, IsWorld}
 
--- the state that the lines of a link tell of is that of its run
+-- the state that the lines of a link report is that of its run
 pub told-state : (setting : Setting) (state : RunState) (link : LinkView) → IsRun setting state link → state_of setting link.lines ≡ state
 unfolding state_of
 told-state setting state link run =
@@ -28,7 +28,7 @@ told-state setting state link run =
     ∙ ap (λ (cs : List Choice). unwrap_or (played setting cs (beginning_of setting)) (beginning_of setting)) (choices_are_read setting run.choices state run.plays)
     ∙ ap (λ (o : Option RunState). unwrap_or o (beginning_of setting)) run.plays
 
--- a half of which nothing changed stands in the next state too
+-- a half of which nothing changed is in the next state too
 half-stays : (setting : Setting) (state next : RunState) (side : Side) (half : HalfView) → end_of side next.world ≡ end_of side state.world → progress_of side next.lines ≡ progress_of side state.lines → IsHalfOf setting state side half → IsHalfOf setting next side half
 half-stays setting state next side half same progress is = record {
   about = is.about;

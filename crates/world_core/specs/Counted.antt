@@ -10,7 +10,7 @@ use Rattle.script_steps.specs.NextEvent.{block_for}
 use Rattle.script_steps.specs.Progress.{HandledRequest, Progress}
 use Rattle.world_core.specs.CountsView.{CountsView, RunningView}
 
--- the block at a place of a script, if there is a place
+-- the block at an index of a script, if there is an index
 abbrev pub block_at : Script → Option ℕ → Option Block
 block_at script place = option_and_then (slice_get script.blocks) place
 

@@ -1,4 +1,4 @@
--- The counts of a side behind one more event.
+-- The counts of a side after one more event.
 use Rattle.std.specs.Prelude.{◌+◌, List, [], ◌∷◌, drop, Option, Some, None}
 use Rattle.ipdl_base.specs.declared.kinds.SendRefusal.{SendRefusal}
 use Rattle.channel_model.specs.Ends.{Resolver}
@@ -12,7 +12,7 @@ use Rattle.world_core.specs.CountsView.{CountsView, RunningView}
 abbrev pub with_event : CountsView → CountsView
 with_event before = record before { events = before.events + 1 }
 
--- one more act of the innermost handler, or of main where none runs
+-- one more act of the innermost handler, or of main where no handler runs
 abbrev pub with_act_of : List RunningView → CountsView → CountsView
 with_act_of [] before = record before { main = before.main + 1 }
 with_act_of (top ∷ below) before = record before { running = record top { acts = top.acts + 1 } ∷ below }
@@ -29,12 +29,12 @@ with_return before = record (with_event before) { running = drop 1 before.runnin
 abbrev pub with_death : CountsView → CountsView
 with_death before = record (with_event before) { running = [] }
 
--- running requests of which the innermost holds this resolver, or none
+-- running requests of which the innermost has this resolver, or no resolver
 abbrev pub holding_on_top : Option Resolver → List RunningView → List RunningView
 holding_on_top resolver [] = []
 holding_on_top resolver (top ∷ below) = record top { resolver = resolver } ∷ below
 
--- the innermost request holds this resolver, or none
+-- the innermost request has this resolver, or no resolver
 abbrev pub with_resolver : Option Resolver → CountsView → CountsView
 with_resolver resolver before = record before { running = holding_on_top resolver before.running }
 
@@ -43,11 +43,11 @@ abbrev pub with_answer : Option SendRefusal → CountsView → CountsView
 with_answer None before = with_act (with_resolver None before)
 with_answer (Some cause) before = with_act before
 
--- the counts behind an answer by the innermost request's resolver, which was taken out; and what is told of it
-abbrev pub behind_answer : ResolveAnswer → CountsView → CountsView
-behind_answer resolve.Sent before = with_act before
-behind_answer (resolve.Refused cause back) before = with_act (with_resolver (Some back) before)
-behind_answer (resolve.NoMemory back) before = with_resolver (Some back) before
+-- the counts after an answer by the innermost request's resolver, which was taken out, and what the call answers
+abbrev pub after_answer : ResolveAnswer → CountsView → CountsView
+after_answer resolve.Sent before = with_act before
+after_answer (resolve.Refused cause back) before = with_act (with_resolver (Some back) before)
+after_answer (resolve.NoMemory back) before = with_resolver (Some back) before
 
 abbrev pub told_answer : ResolveAnswer → StepAnswer
 told_answer resolve.Sent = answer.Did

@@ -17,7 +17,7 @@ pub record RunningView : Type 0 where
 abbrev pub view_of : RunningRequest → RunningView
 view_of r = record { block = r.block; acts = r.acts; given = plain_values r.given; made = r.made; resolver = r.resolver }
 
--- How many events the side has, how many acts of its main, the table of blocks, and
+-- The numbers of events of the side and of acts of its main, the table of blocks, and
 -- the requests whose handlers run, the innermost first.
 pub record CountsView : Type 0 where
   pub events : ℕ

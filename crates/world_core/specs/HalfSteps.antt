@@ -13,8 +13,8 @@ use Rattle.end_parts.specs.declared.packet.Packet.{Packet}
 use Rattle.end_parts.specs.PacketReading.{carried, packet_read}
 use Rattle.channel_core.specs.declared.answers.DeliverAnswer.{DeliverAnswer}
 use Rattle.channel_core.specs.declared.answers.DeliverAnswer.TheVariants as delivery
-use Rattle.channel_core.specs.Delivered.{told_refusal}
-use Rattle.channel_core.specs.EndView.{IsFramed, behind}
+use Rattle.channel_core.specs.Delivered.{refusal_answer}
+use Rattle.channel_core.specs.EndView.{IsFramed, following}
 use Rattle.script_runs.specs.Allowed.{IsAllowed}
 use Rattle.script_runs.specs.Dispatches.{dispatches}
 use Rattle.script_runs.specs.Handlers.{IsHandlerOf}
@@ -38,7 +38,7 @@ with_end_of before after = record before { end = after.end; counts = after.count
 pub record IsHalfStep (before : HalfView) (progress : Progress) (link : List model.Packet) (event : Event) (after : HalfView) : Type 0 where
   pub output : Output
   pub is_step : step before.end.schema before.end.end link event ≡ Some output
-  pub is_behind : after.end ≡ behind before.end output
+  pub is_after : after.end ≡ following before.end output
   pub framed : AllByRecursion (IsFramed before.end.schema) output.packets
   pub same : after ≡ with_end_of before after
   pub counted : IsCountedBy after (after_lines progress (whats_of output.lines))
@@ -50,8 +50,8 @@ StepGives before progress event answer.Nothing after = ⊥
 StepGives before progress event (answer.Spent side) after = ⊥
 StepGives before progress event answer.NoMemory after = after ≡ before
 
--- A half of this progress may go on: what its end does next, if it does anything, may be tried there; what it keeps fits the
--- schema; and its handlers stand as they were taken.
+-- A half of this progress may make a step: what its end does next, if it does anything, may be tried there; what it keeps fits
+-- the schema; and its handlers are as they were taken.
 pub record MayGoOn (half : HalfView) (progress : Progress) : Type 0 where
   pub counted : IsCountedBy half progress
   pub few : half.end.end.sent < 268435456
@@ -61,7 +61,7 @@ pub record MayGoOn (half : HalfView) (progress : Progress) : Type 0 where
   pub handlers : AllZip (IsHandlerOf half.end.schema half.script half.end.end.side half.end.end) (dispatches half.end.end.stack) progress.handled
   pub apart : AreApart half.end.end
 
--- The next step was made; or there is none; or it would pass the limit; or nothing changed.
+-- The next step was made; or there is no next step; or it would pass the limit; or nothing changed.
 pub record IsOwnStep (before : HalfView) (progress : Progress) (after : HalfView) : Type 0 where
   pub event : Event
   pub is_next : next_of before progress ≡ Some event
@@ -91,4 +91,4 @@ DeliveryGives before progress packet answer.NoMemory after = after ≡ before
 abbrev pub OfferGives : HalfView → Progress → model.Packet → DeliverAnswer → HalfView → Type 0
 OfferGives before progress packet delivery.Done after = (packet_refusal before.end.schema before.end.end packet ≡ None) × IsHalfStep before progress (packet ∷ []) event.deliver after
 OfferGives before progress packet delivery.NoMemory after = after ≡ before
-OfferGives before progress packet other after = (told_refusal (packet_refusal before.end.schema before.end.end packet) ≡ other) × (after ≡ before)
+OfferGives before progress packet other after = (refusal_answer (packet_refusal before.end.schema before.end.end packet) ≡ other) × (after ≡ before)

@@ -12,7 +12,7 @@ use Rattle.world_core.specs.Counted.{AreCountsOf}
 use Rattle.world_core.specs.Resolvers.{HoldResolvers}
 
 -- The end, with the lines and packets that were not appended to the link; the script, the stop and the limit; the counts
--- of its side; and the lines that the half has taken over from its end, with room for so many more.
+-- of its side; and the lines that the half has taken over from its end, with room for this number of lines more.
 pub record HalfView : Type 0 where
   pub end : EndView
   pub script : Script
@@ -22,16 +22,16 @@ pub record HalfView : Type 0 where
   pub history : List Line
   pub spare : ℕ
 
--- what the run of a half is about
+-- the setting of the run of a half
 abbrev pub setting_of : HalfView → Setting
 setting_of half = record { schema = half.end.schema; script = half.script; stop = half.stop; limit = half.limit }
 
--- A half has come as far as this progress, and its running requests hold the resolvers of their dispatches.
+-- A half has come as far as this progress, and its running requests have the resolvers of their dispatches.
 pub record IsCountedBy (half : HalfView) (progress : Progress) : Type 0 where
   pub counts : AreCountsOf half.script half.end.end.side progress half.counts
   pub held : HoldResolvers half.counts.running half.end.end
 
--- what lines say
+-- what lines report
 abbrev pub whats_of : List Line → List What
 whats_of lines = map (λ line. line.what) lines
 

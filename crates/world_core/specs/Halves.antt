@@ -1,4 +1,4 @@
--- Halves of a run that go on apart from the link, and what they do when they meet it.
+-- Halves of a run that make steps away from the link, and what they do when they meet it.
 use Rattle.std.specs.Prelude.{◌≡◌, ℕ, ◌≤◌, nat_lt, Bool, true, false, ◌&&◌, is_some, List, [], ◌++◌, length, replicate, Some}
 use Rattle.std.specs.List.{AllByRecursion}
 use Rattle.handler_script.specs.ScriptOf.{first_of}
@@ -9,7 +9,7 @@ use Rattle.ipdl_base.specs.declared.line.Line.{Line}
 use Rattle.ipdl_base.specs.Sound.{IsSound}
 use Rattle.channel_model.specs.Ends.{end_of, link_to}
 use Rattle.channel_model.specs.Ends as model
-use Rattle.channel_model.specs.Numbers.{other}
+use Rattle.ipdl_base.specs.Sides.{other}
 use Rattle.channel_model.specs.Outputs.{is_open}
 use Rattle.channel_model.specs.Runs.{RunState}
 use Rattle.channel_core.specs.EndView.{IsFramed, packets_of}
@@ -24,15 +24,15 @@ use Rattle.world_core.specs.LinkView.{IsAppended, LinkView, packets_to}
 use Rattle.world_core.specs.WorldView.{WorldView, state_of}
 use Rattle.world_core.specs.Worlds.{IsRun, most_events}
 
--- so many own steps of a side, and so many deliveries to it
+-- this number of own steps of a side, and of deliveries to it
 abbrev pub own_choices : Side → ℕ → List Choice
 own_choices side count = replicate count (record { side = side; delivers = false })
 
 abbrev pub deliveries_to : Side → ℕ → List Choice
 deliveries_to side count = replicate count (record { side = side; delivers = true })
 
--- A half has come as far as its side in a state of a run by a valid script of a sound schema, to which choices lead. Of
--- what it has stored nothing is said.
+-- A half has come as far as its side in a state of a run by a valid script of a sound schema, to which choices lead.
+-- Nothing is stated of what it has stored.
 pub record HasComeTo (setting : Setting) (state : RunState) (side : Side) (half : HalfView) : Type 0 where
   pub sound : IsSound setting.schema
   pub valid : IsValid setting.schema setting.script
@@ -43,8 +43,8 @@ pub record HasComeTo (setting : Setting) (state : RunState) (side : Side) (half 
   pub end : half.end.end ≡ end_of side state.world
   pub counted : IsCountedBy half (progress_of side state.lines)
 
--- Own steps of a side alone, so many, led from a state of a run to another. A half has stored the lines and the packets
--- that came of them, and each packet has a frame.
+-- This number of own steps of a side alone led from a state of a run to another. A half has stored the lines and the packets
+-- of these steps, and each packet has a frame.
 pub record HasStored (setting : Setting) (side : Side) (from to : RunState) (half : HalfView) : Type 0 where
   pub count : ℕ
   pub plays : played setting (own_choices side count) from ≡ Some to
@@ -54,8 +54,8 @@ pub record HasStored (setting : Setting) (side : Side) (from to : RunState) (hal
   pub packets : half.end.packets ≡ packets_of setting.schema sent
   pub framed : AllByRecursion (IsFramed setting.schema) sent
 
--- A half fits behind lines: they are those of a state of a run, from which it has gone on by own steps of its side alone.
-pub record FitsBehind (setting : Setting) (side : Side) (seen : List Line) (half : HalfView) : Type 0 where
+-- A half fits after lines: they are those of a state of a run, from which it has come by own steps of its side alone.
+pub record FitsAfter (setting : Setting) (side : Side) (seen : List Line) (half : HalfView) : Type 0 where
   pub from : RunState
   pub leading : List Choice
   pub leads : played setting leading (beginning_of setting) ≡ Some from
@@ -64,16 +64,16 @@ pub record FitsBehind (setting : Setting) (side : Side) (seen : List Line) (half
   pub come : HasComeTo setting to side half
   pub stored : HasStored setting side from to half
 
--- What a half has stored stands behind the lines that it fits in a history of the script.
+-- What a half has stored follows the lines that it fits in a history of the script.
 abbrev pub StoredLinesFollow : Type 0
-StoredLinesFollow = (setting : Setting) (side : Side) (seen : List Line) (half : HalfView) → FitsBehind setting side seen half → IsCaseHistory setting (seen ++ half.end.lines)
+StoredLinesFollow = (setting : Setting) (side : Side) (seen : List Line) (half : HalfView) → FitsAfter setting side seen half → IsCaseHistory setting (seen ++ half.end.lines)
 
--- A half that fits behind lines fits behind more lines of the other side too, where these are a history of the script: as
--- many own steps lead there to the same end, the same progress, the same lines and the same packets.
-abbrev pub HalvesFitBehindMore : Type 0
-HalvesFitBehindMore =
-    (setting : Setting) (side : Side) (seen others : List Line) (half : HalfView) → FitsBehind setting side seen half → lines_of side others ≡ [] → IsCaseHistory setting (seen ++ others)
-    → FitsBehind setting side (seen ++ others) half
+-- A half that fits after lines fits after more lines of the other side too, where these are a history of the script: the same
+-- number of own steps leads there to the same end, the same progress, the same lines and the same packets.
+abbrev pub HalvesFitAfterMore : Type 0
+HalvesFitAfterMore =
+    (setting : Setting) (side : Side) (seen others : List Line) (half : HalfView) → FitsAfter setting side seen half → lines_of side others ≡ [] → IsCaseHistory setting (seen ++ others)
+    → FitsAfter setting side (seen ++ others) half
 
 -- a link is home: its lines and its packets are those of a state of a run
 abbrev pub IsHome : Setting → LinkView → Type 0
@@ -83,28 +83,28 @@ IsHome setting link = IsRun setting (state_of setting link.lines) link
 abbrev pub IsEmptied : HalfView → Type 0
 IsEmptied half = (half.end.lines ≡ []) × (half.end.packets ≡ [])
 
--- Both halves of a run and its link, apart from one another, with nothing left to append.
+-- Both halves of a run and its link, separately, with nothing left to append.
 pub record IsSplit (setting : Setting) (parent child : HalfView) (link : LinkView) : Type 0 where
   pub home : IsHome setting link
-  pub parent_fits : FitsBehind setting sides.Parent link.lines parent
+  pub parent_fits : FitsAfter setting sides.Parent link.lines parent
   pub parent_emptied : IsEmptied parent
-  pub child_fits : FitsBehind setting sides.Child link.lines child
+  pub child_fits : FitsAfter setting sides.Child link.lines child
   pub child_emptied : IsEmptied child
 
 -- the world of a half and a link
 abbrev pub joined : HalfView → LinkView → WorldView
 joined half link = record { setting = setting_of half; state = state_of (setting_of half) link.lines }
 
--- Deliveries to a side alone, so many, lead from a state of a run to another, and add lines of that side.
+-- This number of deliveries to a side alone leads from a state of a run to another, and adds lines of that side.
 pub record Delivers (setting : Setting) (side : Side) (from to : RunState) : Type 0 where
   pub count : ℕ
   pub plays : played setting (deliveries_to side count) from ≡ Some to
   pub lines : List Line
-  pub behind : to.lines ≡ from.lines ++ lines
+  pub following : to.lines ≡ from.lines ++ lines
   pub own : lines_of (other side) lines ≡ []
 
 -- A half has met the link: what it had stored, all of its side, was appended, and then deliveries were made to its side.
--- The link is home again, and the half fits behind it with nothing left to append.
+-- The link is home again, and the half fits after it with nothing left to append.
 pub record HasMet (setting : Setting) (side : Side) (half : HalfView) (link : LinkView) (half' : HalfView) (link' : LinkView) : Type 0 where
   pub between : LinkView
   pub appends : IsAppended link half.end.lines (other side) half.end.packets between
@@ -114,21 +114,21 @@ pub record HasMet (setting : Setting) (side : Side) (half : HalfView) (link : Li
   pub delivers : Delivers setting side (state_of setting between.lines) (state_of setting link'.lines)
   pub lines : link'.lines ≡ (link.lines ++ half.end.lines) ++ delivers.lines
   pub home : IsHome setting link'
-  pub fits : FitsBehind setting side link'.lines half'
+  pub fits : FitsAfter setting side link'.lines half'
   pub emptied : IsEmptied half'
 
 -- whether a packet waits for a half at an open end
 abbrev pub is_waited_for : Side → HalfView → LinkView → Bool
 is_waited_for side half link = is_open half.end.end.state && is_some (first_of (packets_to side link))
 
--- How a meeting ends: nothing waits any more, and so many lines were appended; or something waits, but the side has as
--- many events as it may have; or memory ran out.
+-- How a meeting ends: nothing waits any more, and this number of lines was appended; or something waits, but the side has
+-- reached its limit of events; or memory ran out.
 abbrev pub MeetEnds : Side → HalfView → MeetAnswer → HalfView → LinkView → Type 0
 MeetEnds side half (answer.Moved count) half' link' = (count ≡ length half.end.lines) × (is_waited_for side half' link' ≡ false)
 MeetEnds side half (answer.Spent at) half' link' = (at ≡ side) × (is_waited_for side half' link' ≡ true) × (nat_lt half'.counts.events half'.limit ≡ false)
 MeetEnds side half answer.NoMemory half' link' = Unit {0}
 
--- how deliveries end, one after another: nothing waits any more, or the side has as many events as it may have, or memory
+-- how deliveries end, one after another: nothing waits any more, or the side has reached its limit of events, or memory
 -- ran out
 abbrev pub DeliveriesEnd : Side → StepAnswer → HalfView → LinkView → Type 0
 DeliveriesEnd side step.Did half link = ⊥

@@ -3,7 +3,6 @@ pub mod Counted
 pub mod Resolvers
 pub mod CountsSteps
 pub mod HalfView
-pub mod HalfParts
 pub mod HalfSteps
 pub mod NextSteps
 pub mod LinkView
@@ -15,7 +14,7 @@ pub mod TakeSteps
 pub mod Halves
 pub mod FeedLaws
 pub mod Feeding
-pub mod Fed
+pub mod FeedResult
 pub mod Relaying
 pub mod Replayed
 pub mod Followed

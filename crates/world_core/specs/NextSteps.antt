@@ -1,4 +1,4 @@
--- What a half does next, told by its kind; and what its calls do, told by its end and its counts.
+-- What a half does next, by its kind; and what its calls do, by its end and its counts.
 use Rattle.std.specs.Prelude.{◌≡◌, ◌<◌, ℤ, nat_lt, true, if◌then◌else◌, List, [], ◌∷◌, Option, Some, None, IsSome, option_and_then, option_map}
 use Rattle.handler_script.specs.declared.action.Action.{Action}
 use Rattle.handler_script.specs.declared.script.Point.TheVariants as point
@@ -38,7 +38,7 @@ abbrev pub acting_seq : List HandledRequest → ℤ
 acting_seq [] = no_id
 acting_seq (request ∷ below) = request.seq
 
--- what terms stand for, by the requests whose handlers run
+-- what terms represent, by the requests whose handlers run
 abbrev pub context_by : End → List RunningView → TermContext
 context_by e [] = record { this = no_id; made = no_id; given = values.Nothing; held = actor_named e }
 context_by e (running ∷ below) = record { this = route_on_top e.stack; made = running.made; given = running.given; held = actor_named e }
@@ -98,20 +98,20 @@ abbrev pub handlers_action : HalfView → List HandledRequest → Option Action
 handlers_action half [] = None
 handlers_action half (request ∷ below) = handler_action half.script half.end.end.side request
 
--- What is asked for is an action of main, where no frame is on top.
+-- The next step is an action of main, where no frame is on top.
 pub record IsOfMain (half : HalfView) (progress : Progress) (asked : Option Event) : Type 0 where
   pub on_top : top_of (frames_of half.end.end) ≡ top.Empty
   pub action : Action
   pub found : main_action half progress ≡ Some action
   pub is : asked ≡ Some (event_of (context_of half.end.end []) no_id action)
 
--- What is asked for is an action of the innermost handler, or its return, where its dispatch is on top.
+-- The next step is an action of the innermost handler, or its return, where its dispatch is on top.
 pub record IsOfHandler (half : HalfView) (progress : Progress) (asked : Option Event) : Type 0 where
   pub head : Head
   pub on_top : top_of (frames_of half.end.end) ≡ top.Dispatch head
   pub is : asked ≡ Some (by_handler half.script half.end.end progress.handled)
 
--- a step of this kind is asked for, or none
+-- the next step is of this kind, or there is no next step
 abbrev pub IsAsked : HalfView → Progress → Option Event → Option NextStep → Type 0
 IsAsked half progress asked None = asked ≡ None
 IsAsked half progress asked (Some next.Die) = asked ≡ Some event.die
@@ -121,7 +121,7 @@ IsAsked half progress asked (Some next.Flush) = asked ≡ Some event.flush
 IsAsked half progress asked (Some next.Main) = IsOfMain half progress asked
 IsAsked half progress asked (Some next.Handler) = IsOfHandler half progress asked
 
--- by what the end does next, and by what its top frame asks for
+-- by what the end does next, and by what its top frame requires
 abbrev pub IsNext : HalfView → Progress → Option NextStep → Type 0
 IsNext half progress step = IsAsked half progress (next_of half progress) step
 

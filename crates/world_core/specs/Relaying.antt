@@ -1,4 +1,4 @@
--- How a half goes on by itself, apart from any link, and what both halves of a run make where each goes by itself.
+-- How a half runs by itself, with no link, and what both halves of a run make where each runs by itself.
 use Rattle.std.specs.Prelude.{◌≡◌, ◌+◌, ◌*◌, ◌-◌, ◌<◌, ◌≤◌, Bool, true, false, is_some, List, [], ◌∷◌, ◌++◌, length, map, Option, Some, None}
 use Rattle.std.specs.List.{AllByRecursion}
 use Rattle.handler_script.specs.Valid.{IsValid}
@@ -11,7 +11,7 @@ use Rattle.channel_model.specs.Ends.{End}
 use Rattle.channel_model.specs.Ends as model
 use Rattle.channel_model.specs.Events.{Event}
 use Rattle.channel_model.specs.Events as event
-use Rattle.channel_model.specs.Numbers.{other}
+use Rattle.ipdl_base.specs.Sides.{other}
 use Rattle.channel_model.specs.Outputs.{Output, is_open}
 use Rattle.channel_model.specs.Refusals.{packet_refusal}
 use Rattle.channel_model.specs.Steps.{step}
@@ -24,7 +24,7 @@ use Rattle.end_parts.specs.PlainLines.{plain_line}
 use Rattle.script_steps.specs.Choices.{Setting}
 use Rattle.script_steps.specs.Progress.{Progress, progress_of}
 use Rattle.script_steps.specs.Turns.{RunEnding, at_limit, at_rest}
-use Rattle.relay_runs.specs.HalfRuns.{HalfRun, HalfState, behind, behind_packet, delivered_for, is_within, own_event}
+use Rattle.relay_runs.specs.HalfRuns.{HalfRun, HalfState, after, after_packet, delivered_for, is_within, own_event}
 use Rattle.relay_runs.specs.RelaySteps.{RelayState, half_of}
 use Rattle.relay_runs.specs.Relays.{EndsAs, RelayTurns, Relayed, RelayedByTurns, exceeds, idles, leads, relay_turn}
 use Rattle.world_core.specs.declared.answers.AcceptAnswer.{AcceptAnswer}
@@ -39,8 +39,8 @@ use Rattle.world_core.specs.HalfView.{HalfView, IsCountedBy, setting_of}
 use Rattle.world_core.specs.WorldView.{WorldView}
 use Rattle.world_core.specs.Worlds.{most_events}
 
--- A half goes apart: by a valid script of a sound schema it has come to a state of a half run, and has taken over all its
--- lines. Of the packets that it has sent it has handed out these and holds the others; each of them has a frame.
+-- A half runs by itself: by a valid script of a sound schema it has come to a state of a half run, and has taken over all its
+-- lines. Of the packets that it has sent it has handed out these and still has the others; each of them has a frame.
 pub record GoesApart (setting : Setting) (side : Side) (state : HalfState) (handed : List model.Packet) (half : HalfView) : Type 0 where
   pub sound : IsSound setting.schema
   pub valid : IsValid setting.schema setting.script
@@ -56,7 +56,7 @@ pub record GoesApart (setting : Setting) (side : Side) (state : HalfState) (hand
   pub packets : half.end.packets ≡ packets_of setting.schema held
   pub framed : AllByRecursion (IsFramed setting.schema) state.sent
 
--- It does so in some state, or each time that it does so something holds of the state.
+-- It runs by itself in some state, or something holds of each state in which it does so.
 pub record IsApart (half : HalfView) : Type 0 where
   pub setting : Setting
   pub side : Side
@@ -67,11 +67,11 @@ pub record IsApart (half : HalfView) : Type 0 where
 abbrev pub InEach : HalfView → (Setting → Side → HalfState → List model.Packet → Type 0) → Type 0
 InEach half Holds = (setting : Setting) (side : Side) (state : HalfState) (handed : List model.Packet) → GoesApart setting side state handed half → Holds setting side state handed
 
--- the progress that its lines tell of
+-- the progress that its lines report
 abbrev pub own_progress : HalfView → Progress
 own_progress half = progress_of half.end.end.side half.history
 
--- a half has room for all lines that may come to be its own
+-- a half has room for all lines that it may ever have
 abbrev pub HasLineRoom : HalfView → Type 0
 HasLineRoom half = 5 * half.limit + 1 - length half.history ≤ half.spare
 
@@ -88,9 +88,9 @@ pub record HasActed (setting : Setting) (side : Side) (state : HalfState) (hande
   pub within : is_within setting side state ≡ true
   pub is_own : own_event setting side state ≡ Some own
   pub is_step : step setting.schema state.end [] own ≡ Some output
-  pub goes : GoesApart setting side (behind state output) handed half'
+  pub goes : GoesApart setting side (after state output) handed half'
 
--- its own step was done; or it has none; or it has as many events as the limit; or memory ran out
+-- its own step was made; or it has no own step; or it has reached the limit; or memory ran out
 abbrev pub GoingGives : Setting → Side → HalfState → List model.Packet → StepAnswer → HalfView → Type 0
 GoingGives setting side state handed answer.Did half' = HasActed setting side state handed half'
 GoingGives setting side state handed answer.Nothing half' = (own_event setting side state ≡ None) × GoesApart setting side state handed half'
@@ -114,10 +114,10 @@ pub record HasAccepted (setting : Setting) (side : Side) (state : HalfState) (ha
   pub within : is_within setting side state ≡ true
   pub opened : is_open state.end.state ≡ true
   pub is_step : step setting.schema state.end (delivered_for setting.schema state.end came ∷ []) event.deliver ≡ Some output
-  pub goes : GoesApart setting side (behind_packet state came (delivered_for setting.schema state.end came) output) handed half'
+  pub goes : GoesApart setting side (after_packet state came (delivered_for setting.schema state.end came) output) handed half'
 
--- the packet was delivered; or the mark was, since the end refuses the packet; or the end is not open; or it has as many
--- events as the limit; or memory ran out
+-- the packet was delivered; or the mark was, since the end refuses the packet; or the end is not open; or it has reached
+-- the limit; or memory ran out
 abbrev pub AcceptGives : Setting → Side → HalfState → List model.Packet → PacketContent → AcceptAnswer → HalfView → Type 0
 AcceptGives setting side state handed content accept.Did half' = (is_refused setting.schema state.end content ≡ false) × HasAccepted setting side state handed (came_by content) half'
 AcceptGives setting side state handed content accept.Refused half' = (is_refused setting.schema state.end content ≡ true) × HasAccepted setting side state handed (came_by content) half'
@@ -154,17 +154,17 @@ pub record HasHandedOut (setting : Setting) (side : Side) (state : HalfState) (h
   pub framed : IsFramed setting.schema next
   pub goes : GoesApart setting side state (handed ++ next ∷ []) half'
 
--- a packet was handed out, or there is none that was not
+-- a packet was handed out, or all packets were
 abbrev pub PutGives : Setting → Side → HalfState → List model.Packet → Option Packet → HalfView → Type 0
 PutGives setting side state handed None half' = (state.sent ≡ handed) × GoesApart setting side state handed half'
 PutGives setting side state handed (Some packet) half' = HasHandedOut setting side state handed packet half'
 
--- The half of a side and the one that faces it go apart, and what each has handed out is what came to the other.
+-- The half of a side and the one that faces it run by themselves, and what each has handed out is what came to the other.
 pub record GoApart (setting : Setting) (side : Side) (state : RelayState) (half facing : HalfView) : Type 0 where
   pub goes : GoesApart setting side (half_of side state) (half_of (other side) state).came half
   pub faces : GoesApart setting (other side) (half_of (other side) state) (half_of side state).came facing
 
--- They do so in some state of a relay, or each time that they do so something holds of the state.
+-- They do so in some state of a relay, or something holds of each state in which they do so.
 pub record AreFacing (half facing : HalfView) : Type 0 where
   pub setting : Setting
   pub side : Side
@@ -192,7 +192,7 @@ RelayTurnGives setting side state (answer.Spent at) half' facing' =
     (relay_turn setting side state ≡ exceeds) × (at ≡ side) × (half'.history ≡ (half_of side state).lines) × (facing'.history ≡ (half_of (other side) state).lines)
 RelayTurnGives setting side state answer.NoMemory half' facing' = Unit {0}
 
--- A parent and a child go apart in some state, or each time that they do so something holds of it.
+-- A parent and a child run by themselves in some state, or something holds of each state in which they do so.
 pub record BothApart (parent child : HalfView) : Type 0 where
   pub setting : Setting
   pub state : RelayState
@@ -214,7 +214,7 @@ turn_answer accept.Nothing = answer.Nothing
 turn_answer (accept.Spent at) = answer.Spent at
 turn_answer accept.NoMemory = answer.NoMemory
 
--- Turns of both, the parent first, led from a state to the last, where the relay ends so.
+-- Turns of both, the parent first, led from a state to the last, in which the relay ends so.
 pub record HasTakenTurns (setting : Setting) (from : RelayState) (ending : RunEnding) (parent' child' : HalfView) : Type 0 where
   pub last : RelayState
   pub turns : RelayTurns setting sides.Parent 2 from last ending
@@ -227,13 +227,13 @@ TurnsGive setting from run.Finished parent' child' = HasTakenTurns setting from 
 TurnsGive setting from (run.Spent side) parent' child' = HasTakenTurns setting from (at_limit side) parent' child'
 TurnsGive setting from run.NoMemory parent' child' = Unit {0}
 
--- the lines of both halves, with every box at one place, stand in a relation with how the run ended, unless memory ran out
+-- the lines of both halves, with every box at one place, are in a relation with how the run ended, unless memory ran out
 abbrev pub EndedIn : (List Line → List Line → RunEnding → Type 0) → Halves → RunAnswer → Type 0
 EndedIn Ends halves run.Finished = Ends (map plain_line halves.parent.lines) (map plain_line halves.child.lines) at_rest
 EndedIn Ends halves (run.Spent side) = Ends (map plain_line halves.parent.lines) (map plain_line halves.child.lines) (at_limit side)
 EndedIn Ends halves run.NoMemory = Unit {0}
 
--- they are those of a relay; and of one in turns
+-- they are those of a relay, or of a relay in turns
 abbrev pub IsRelayed : Setting → Halves → RunAnswer → Type 0
 IsRelayed setting halves answer = EndedIn (Relayed setting) halves answer
 

@@ -1,4 +1,4 @@
--- Whose resolvers the running requests of a side hold.
+-- Whose resolvers the running requests of a side have.
 use Rattle.std.specs.Prelude.{◌≡◌, true, false, List, [], ◌∷◌, map, Option, Some, None, if◌then◌else◌}
 use Rattle.nesting_core.specs.Frames.{head_of}
 use Rattle.channel_model.specs.Answers.{released, resolver_in}
@@ -10,11 +10,11 @@ use Rattle.world_core.specs.CountsView.{RunningView}
 abbrev pub resolver_of : StackEntry → Option Resolver
 resolver_of entry = if entry.resolves then Some (resolver_in entry) else None
 
--- each running request holds the resolver of its dispatch, as long as that is there
+-- each running request has the resolver of its dispatch, as long as that is there
 abbrev pub HoldResolvers : List RunningView → End → Type 0
 HoldResolvers running e = map (λ r. r.resolver) running ≡ map resolver_of (dispatches e.stack)
 
--- the resolver that the innermost running request holds
+-- the resolver that the innermost running request has
 abbrev pub resolver_on_top : List RunningView → Option Resolver
 resolver_on_top [] = None
 resolver_on_top (top ∷ below) = top.resolver

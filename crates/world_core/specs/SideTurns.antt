@@ -3,7 +3,7 @@ use Rattle.std.specs.Prelude.{◌≡◌, true, false, is_some, Some}
 use Rattle.ipdl_base.specs.declared.kinds.Side.{Side}
 use Rattle.channel_model.specs.Ends.{end_of, link_to}
 use Rattle.channel_model.specs.Events as event
-use Rattle.channel_model.specs.Numbers.{other}
+use Rattle.ipdl_base.specs.Sides.{other}
 use Rattle.channel_model.specs.Runs.{RunState}
 use Rattle.schedules.specs.declared.turn.Turn.{Turn}
 use Rattle.script_steps.specs.Choices.{Choice, chosen, is_within, may_deliver, own_event}
@@ -17,12 +17,12 @@ use Rattle.world_core.specs.LinkView.{LinkView}
 use Rattle.world_core.specs.WorldView.{WorldView}
 use Rattle.world_core.specs.Worlds.{IsHalfOf, IsRun}
 
--- A half stands on its link in a state of a run.
+-- A half and its link are in a state of a run.
 pub record StandsIn (at : WorldView) (side : Side) (half : HalfView) (link : LinkView) : Type 0 where
   pub run : IsRun at.setting at.state link
   pub half_is : IsHalfOf at.setting at.state side half
 
--- A half has carried out a choice, and stands in the next state. Of the other side nothing changed.
+-- A half has carried out a choice, and is in the next state. Nothing of the other side changed.
 pub record HasPlayed (at : WorldView) (choice : Choice) (half : HalfView) (link : LinkView) : Type 0 where
   pub next : RunState
   pub is_chosen : chosen at.setting choice at.state ≡ Some next
@@ -35,7 +35,7 @@ pub record HasPlayed (at : WorldView) (choice : Choice) (half : HalfView) (link 
 abbrev pub AreSame : HalfView → LinkView → HalfView → LinkView → Type 0
 AreSame half link half' link' = (half' ≡ half) × (link' ≡ link)
 
--- A side may have the packet delivered that comes first on the link toward it.
+-- A side may get the packet that is first on the link toward it.
 pub record MayHave (at : WorldView) (side : Side) : Type 0 where
   pub there : may_deliver side at.state.world ≡ true
   pub within : is_within at.setting side at.state ≡ true

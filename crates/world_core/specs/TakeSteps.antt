@@ -5,7 +5,7 @@ use Rattle.ipdl_base.specs.declared.kinds.Side.{Side}
 use Rattle.ipdl_base.specs.declared.message.Message.{Message}
 use Rattle.ipdl_base.specs.declared.schema.MessageRow.{MessageRow}
 use Rattle.ipdl_base.specs.declared.value.Values.{Values}
-use Rattle.script_parts.specs.Tables.{IsTableOf, block_behind}
+use Rattle.script_parts.specs.Tables.{IsTableOf, block_after}
 use Rattle.channel_model.specs.Events as event
 use Rattle.channel_core.specs.EndView.{EndView}
 use Rattle.channel_core.specs.Steps.{IsStep}
@@ -25,10 +25,10 @@ begun block m row vs = record { block = block; acts = 0; given = vs; made = m.ma
 pub record HasBegun (before : CountsView) (m : Message) (row : MessageRow) (vs : Values) (after : CountsView) : Type 0 where
   pub block : Option ℕ
   pub serves : (blocks : List Block) (side : Side) (taken : List ℕ) → IsTableOf blocks side taken before.table
-      → IsTableOf blocks side (m.number ∷ taken) after.table × (option_and_then (slice_get blocks) block ≡ block_behind blocks side m.number taken)
+      → IsTableOf blocks side (m.number ∷ taken) after.table × (option_and_then (slice_get blocks) block ≡ block_after blocks side m.number taken)
   pub is : after ≡ record (with_event before) { table = after.table; running = begun block m row vs ∷ before.running }
 
--- what a take counts as: where it handles a request, that one's handler begins; else it is an event and no more
+-- what a take counts as: if it handles a request, the handler of that begins; else it is an event and no more
 abbrev pub IsCountedTake : TakeKind → CountsView → CountsView → Type 0
 IsCountedTake (handle m row vs) before after = HasBegun before m row vs after
 IsCountedTake nothing before after = ⊥
@@ -41,7 +41,7 @@ TakeCounts before seen answer.Nothing after seen' = ⊥
 TakeCounts before seen (answer.Spent side) after seen' = ⊥
 TakeCounts before seen answer.NoMemory after seen' = (after ≡ before) × (seen' ≡ seen)
 
--- The end of a half has taken what arrived first, and its counts say so. Nothing else of it changed.
+-- The end of a half has taken what arrived first, and its counts have changed accordingly. Nothing else of it changed.
 pub record HasTaken (before after : HalfView) : Type 0 where
   pub is : IsStep before.end event.take after.end
   pub same : after ≡ with_end_of before after

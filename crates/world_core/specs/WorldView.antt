@@ -5,7 +5,7 @@ use Rattle.channel_model.specs.Runs.{RunState}
 use Rattle.script_steps.specs.Choices.{Setting, beginning_of, choices_of, played}
 use Rattle.world_core.specs.LinkView.{LinkView}
 
--- What the run is about, and how far it has come.
+-- The setting of a run, and how far it has come.
 pub record WorldView : Type 0 where
   pub setting : Setting
   pub state : RunState
@@ -14,10 +14,10 @@ pub record WorldView : Type 0 where
 abbrev pub opening_of : Setting → WorldView
 opening_of setting = record { setting = setting; state = beginning_of setting }
 
--- the state of a run that lines tell of: the one to which their choices lead
+-- the state of a run that lines report: the one to which their choices lead
 unfoldable pub state_of : Setting → List Line → RunState
 state_of setting lines = unwrap_or (played setting (choices_of lines) (beginning_of setting)) (beginning_of setting)
 
--- what a run is about, and the state that the lines of its link tell of
+-- the setting of a run, and the state that the lines of its link report
 abbrev pub seen_by : Setting → LinkView → WorldView
 seen_by setting link = record { setting = setting; state = state_of setting link.lines }

@@ -19,7 +19,7 @@ use Rattle.world_core.specs.WorldView.{WorldView}
 abbrev pub most_events : ℕ
 most_events = 20000
 
--- how many lines of a side, and how many packets from it, there is room for
+-- the numbers of lines of a side, and of packets from it, that there is room for
 abbrev pub room_of : ℕ → ℕ
 room_of limit = 8 * limit + 1
 
@@ -71,7 +71,7 @@ pub record IsWorld (setting : Setting) (state : RunState) (parent child : HalfVi
   pub parent_is : IsHalfOf setting state sides.Parent parent
   pub child_is : IsHalfOf setting state sides.Child child
 
--- Choices lead to the state of a world. So its history is the script's own.
+-- Choices lead to the state of a world. So its history is a history of the script.
 pub record IsCase (w : WorldView) : Type 0 where
   pub leading : List Choice
   pub plays : played w.setting leading (beginning_of w.setting) ≡ Some w.state

@@ -1,12 +1,14 @@
+//! What steps, turns, runs and meetings answer.
 use ipdl_base::Side;
 
 /// What a step or a turn answers.
 #[derive(Clone, Copy, Debug, PartialEq, Eq)]
 pub enum StepAnswer {
+    /// The step was made.
     Did,
     /// There is nothing to do, and nothing changed.
     Nothing,
-    /// There is something to do, but this side has as many events as it may have. Nothing changed.
+    /// There is something to do, but this side has reached its limit of events. Nothing changed.
     Spent(Side),
     /// Nothing changed.
     NoMemory,
@@ -17,21 +19,21 @@ pub enum StepAnswer {
 pub enum RunAnswer {
     /// Neither side has a step or a delivery left.
     Finished,
-    /// This side has a step or a delivery left, but as many events as it may have.
+    /// This side has a step or a delivery left, but has reached its limit of events.
     Spent(Side),
-    /// The run stands behind the turns before the one that wanted memory.
+    /// Memory ran out. The run is after the turns before the one that failed.
     NoMemory,
 }
 
 /// What a meeting of a half with the link answers.
 #[derive(Clone, Copy, Debug, PartialEq, Eq)]
 pub enum MeetAnswer {
-    /// So many lines were appended, and nothing is left to deliver to an open end.
+    /// This number of lines was appended, and nothing is left to deliver to an open end.
     Moved(usize),
-    /// The lines were appended, and a delivery is left to an open end, but this side has as many
-    /// events as it may have.
+    /// The lines were appended, and a delivery to an open end is left, but this side has reached its limit
+    /// of events.
     Spent(Side),
-    /// The lines were appended, and the deliveries were done before the one that wanted memory.
+    /// Memory ran out. The lines were appended, and the deliveries before the one that failed were done.
     NoMemory,
 }
 
@@ -44,7 +46,7 @@ pub enum AcceptAnswer {
     Refused,
     /// The end is not open. Nothing changed.
     Nothing,
-    /// This side has as many events as it may have. Nothing changed.
+    /// This side has reached its limit of events. Nothing changed.
     Spent(Side),
     /// Nothing changed.
     NoMemory,

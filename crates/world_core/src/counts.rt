@@ -1,3 +1,5 @@
+//! How far a side has come in its script, counted as it runs.
+
 mod taking;
 
 use crate::answers::StepAnswer;
@@ -11,29 +13,29 @@ use std::marker::Model;
 /// A request whose handler runs.
 #[derive(Drop)]
 pub struct RunningRequest {
-    /// The block that serves it, by its place in the script.
+    /// The index in the script of the block that serves it.
     pub block: Option<u32>,
-    /// How many acts the handler has done.
+    /// The number of acts that the handler has done.
     pub acts: u32,
     /// Its values, as they were taken.
     pub given: Values,
-    /// The id of the actor that it built, else 0.
+    /// The id of the actor that it built, or 0.
     pub made: i32,
-    /// The right to answer it, where it was neither used nor kept.
+    /// The right to answer it, if it was neither used nor kept.
     pub resolver: Option<Resolver>,
 }
 
 /// How far a side has come in its script.
 #[derive(Drop)]
-pub struct Counts {
+pub struct ScriptCounts {
     pub(crate) events: u32,
     pub(crate) main: u32,
     pub(crate) table: BlockTable,
-    /// The innermost one last.
+    /// The requests whose handlers run, the innermost last.
     pub(crate) running: Vec<RunningRequest>,
 }
 
-impl Model for Counts {
+impl Model for ScriptCounts {
     ghost use Rattle.std.specs.Prelude.{◌≤◌, map, reverse};
     ghost use Rattle.std.specs.List.{All};
     ghost use Rattle.std.specs.Coded.{codes};
@@ -55,7 +57,7 @@ impl Model for Counts {
     ghost invariant = { λ a. (a.main ≤ a.events) × All (λ r. r.acts ≤ a.events) a.running.items };
 }
 
-impl Counts {
+impl ScriptCounts {
     ghost use Rattle.std.specs.Prelude.{◌^◌, [], length, IfOk};
     ghost use Rattle.script_steps.specs.Progress.{no_progress};
     ghost use Rattle.world_core.specs.Counted.{AreCountsOf};
@@ -66,16 +68,20 @@ impl Counts {
     ghost use Rattle.script_parts.specs.Tables.{IsTableOf};
     ghost use Rattle.handler_script.specs.ScriptOf.{first_of};
     ghost use Rattle.world_core.specs.CountsView.{view_of};
-    ghost use Rattle.world_core.specs.CountsSteps.{behind_answer, told_answer, with_act, with_death, with_event, with_resolver, with_return};
+    ghost use Rattle.world_core.specs.CountsSteps.{after_answer, told_answer, with_act, with_death, with_event, with_resolver, with_return};
     ghost use Rattle.world_core.specs.Resolvers.{resolver_on_top};
 
-    /// The counts of a side as it begins. The only error is want of memory.
-    pub(crate) fn new(alloc: Global, script: &Script, side: Side) -> Result<Counts, AllocError>
+    /// Creates the counts of a side as it begins. Fails only if memory runs out.
+    pub(crate) fn new(
+        alloc: Global,
+        script: &Script,
+        side: Side,
+    ) -> Result<ScriptCounts, AllocError>
         requires { length script.now.blocks < 2 ^ 32 }
         ensures counts { IfOk result (AreCountsOf script.now side no_progress) }
         ensures none { IfOk result (λ counts. counts.running ≡ []) }
     {
-        Ok(Counts {
+        Ok(ScriptCounts {
             events: 0,
             main: 0,
             table: BlockTable::new(alloc, script, side)?,
@@ -83,14 +89,14 @@ impl Counts {
         })
     }
 
-    /// How many events the side has.
+    /// Returns the number of events of the side.
     pub(crate) fn events(&self) -> u32
         ensures { result ≡ self.now.events }
     {
         self.events
     }
 
-    /// One more event.
+    /// Counts one more event.
     pub(crate) fn count_event(&mut self)
         requires { self.old.events < 4294967295 }
         ensures { self.new ≡ with_event self.old }
@@ -98,7 +104,7 @@ impl Counts {
         self.events += 1;
     }
 
-    /// One more act of the innermost handler, or of main where none runs.
+    /// Counts one more act of the innermost handler, or of main if no handler runs.
     pub(crate) fn count_act(&mut self)
         requires { self.old.events < 4294967295 }
         ensures { self.new ≡ with_act self.old }
@@ -110,7 +116,7 @@ impl Counts {
         }
     }
 
-    /// The innermost handler returns.
+    /// Counts the return of the innermost handler.
     pub(crate) fn count_return(&mut self)
         requires { self.old.events < 4294967295 }
         ensures { self.new ≡ with_return self.old }
@@ -119,7 +125,7 @@ impl Counts {
         let _ = self.running.pop();
     }
 
-    /// All handlers end by a death.
+    /// Counts a death, which ends all handlers.
     pub(crate) fn count_death(&mut self)
         requires { self.old.events < 4294967295 }
         ensures { self.new ≡ with_death self.old }
@@ -128,7 +134,7 @@ impl Counts {
         self.running.clear();
     }
 
-    /// The resolver of the innermost request, which is taken out.
+    /// Takes out the resolver of the innermost request.
     pub(crate) fn take_resolver(&mut self) -> Option<Resolver>
         ensures taken { result ≡ resolver_on_top self.old.running }
         ensures rest { self.new ≡ with_resolver None self.old }
@@ -139,7 +145,7 @@ impl Counts {
         top.resolver.take()
     }
 
-    /// The innermost request has this resolver, or none.
+    /// Gives the innermost request this resolver, or no resolver.
     pub(crate) fn put_resolver(&mut self, resolver: Option<Resolver>)
         ensures { self.new ≡ with_resolver resolver self.old }
     {
@@ -149,10 +155,10 @@ impl Counts {
         top.resolver = resolver;
     }
 
-    /// The innermost handler has answered by its resolver, which comes back where it was not used.
+    /// Counts the answer of the innermost handler by its resolver, which comes back if it was not used.
     pub(crate) fn count_answer(&mut self, answer: ResolveAnswer) -> StepAnswer
         requires { self.old.events < 4294967295 }
-        ensures counts { self.new ≡ behind_answer answer self.old }
+        ensures counts { self.new ≡ after_answer answer self.old }
         ensures told { result ≡ told_answer answer }
     {
         match answer {
@@ -172,21 +178,21 @@ impl Counts {
         }
     }
 
-    /// The request whose handler is the innermost one that runs.
+    /// Returns the request of the innermost handler.
     pub(crate) fn innermost(&self) -> Option<&RunningRequest>
         ensures { option_map (λ r. view_of r.now) result ≡ first_of self.now.running }
     {
         self.running.last()
     }
 
-    /// How many acts main has done.
+    /// Returns the number of acts that main has done.
     pub(crate) fn main(&self) -> u32
         ensures { result ≡ self.now.main }
     {
         self.main
     }
 
-    /// The block that is the side's main, by its place in the script.
+    /// Returns the index in the script of the block that is the main of the side.
     pub(crate) fn main_block(&self) -> Option<u32>
         ensures { (blocks : List ScriptBlock) (side : EndSide) (taken : List ℕ)
             → IsTableOf blocks side taken self.now.table

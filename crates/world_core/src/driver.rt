@@ -1,3 +1,4 @@
+//! The trait of what drives a run, and the driver that runs on one thread.
 ghost use Rattle.std.specs.Prelude.{◌≡◌};
 ghost use Rattle.world_core.specs.Turns.{GivesUnless, GrowsTo, StandsAs, WordGives};
 ghost use Rattle.world_core.specs.WorldView.{WorldView};
@@ -10,10 +11,10 @@ use schedules::Turn;
 
 /// Runs a world until neither side has a step or a delivery left.
 pub trait Driver {
-    /// The world handed in, the one given back, and the answer.
+    /// Relates the world handed in, the world given back, and the answer.
     ghost Gives: { Self → WorldView → WorldView → OfRunAnswer → Type 0 };
 
-    /// Whether it may run.
+    /// Whether the driver may run.
     ghost ready: { Self → Type 0 };
 
     fn drive<'s>(&mut self, world: World<'s>) -> (World<'s>, RunAnswer)
@@ -26,14 +27,14 @@ pub trait Driver {
         ensures laws { IsLawful result.0 };
 }
 
-/// Turns of both sides in a stated order, on one thread.
+/// Makes the turns of both sides in a stated order, on one thread.
 #[derive(Drop)]
 pub struct OneThread {
     word: Vec<Turn>,
 }
 
 impl OneThread {
-    /// The driver that does the turns of a word.
+    /// Creates the driver that makes the turns of a word.
     pub fn new(word: Vec<Turn>) -> OneThread
         ensures { result.word.items ≡ word.items }
     {

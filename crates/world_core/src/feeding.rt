@@ -1,5 +1,5 @@
-//! One end against any bytes (docs/feed.md).
-ghost use Rattle.std.specs.Prelude.{◌≡◌, ◌+◌, ◌≤◌, map, length, IfOk};
+//! Runs one end against any bytes (docs/feed.md).
+ghost use Rattle.std.specs.Prelude.{◌≡◌, ◌+◌, ◌≤◌, map, length, IfOk, None};
 ghost use Rattle.handler_script.specs.Valid.{IsValid};
 ghost use Rattle.history.specs.Text.{transcript_text};
 ghost use Rattle.ipdl_base.specs.Plain.{plain_message};
@@ -10,9 +10,10 @@ ghost use Rattle.value_codec.specs.Decoding.{begins};
 ghost use Rattle.value_codec.specs.Laws.{AreBytes};
 ghost use Rattle.end_parts.specs.PlainLines.{plain_line};
 ghost use Rattle.script_steps.specs.Progress.{Progress};
-ghost use Rattle.feed_runs.specs.FeedTurns.{FeedSetting, kept_fault};
+ghost use Rattle.script_steps.specs.Choices.{Setting};
+ghost use Rattle.feed_runs.specs.FeedTurns.{kept_fault};
 ghost use Rattle.feed_runs.specs.NextFrame.{frame_at, message_at};
-ghost use Rattle.world_core.specs.Fed.{IsFeedOf};
+ghost use Rattle.world_core.specs.FeedResult.{IsFeedOf};
 ghost use Rattle.world_core.specs.Feeding.{BreakGives, FrameGives, HasCome, HasEnded, MayBeGiven, MayRead, OwnTurnGives, RestsAt, StoreGives, TurnGives, progress_in};
 ghost use Rattle.world_core.specs.HalfSteps.{MayGoOn};
 ghost use Rattle.world_core.specs.Worlds.{most_events};
@@ -27,22 +28,22 @@ use history::{History, history_text};
 use ipdl_base::{Message, Schema, Side};
 use line_laws::texts_see_no_box;
 use std::alloc::{AllocError, Global};
-use value_codec::{Decoded, decode};
+use value_codec::{DecodeResult, decode};
 
 /// What one end makes of bytes.
 #[derive(Drop)]
-pub struct Fed {
+pub struct FeedResult {
     /// The lines of the end.
     pub history: History,
-    /// Whether the end has a step or a delivery left, but as many events as it may have.
+    /// Whether the end has a step or a delivery left, but has reached its limit of events.
     pub spent: bool,
-    /// Why the bytes that were left are not read, where the end was open as it came to them.
+    /// Why the rest of the bytes was not read, if the end was still open when it reached them.
     pub fault: Option<FeedFault>,
 }
 
-impl Fed {
-    /// The text that a transcript prints of the history (docs/transcripts.md). The only error is want
-    /// of memory.
+impl FeedResult {
+    /// Returns the text that a transcript prints of the history (docs/transcripts.md). Fails only if
+    /// memory runs out.
     pub fn transcript(&self, alloc: Global, schema: &Schema) -> Result<Vec<u8>, AllocError>
         requires { IsSound schema.now }
         ensures { IfOk result (λ text. text.items ≡ transcript_text schema.now (map plain_line self.now.history.lines)) }
@@ -52,29 +53,29 @@ impl Fed {
     }
 }
 
-/// What is kept of a feed beside its end.
+/// What a feed keeps beside its half.
 #[derive(Drop)]
 struct FeedTrace {
     /// The lines of the end.
     history: History,
-    /// How many of the bytes were read.
+    /// The number of bytes that were read.
     place: usize,
-    /// Why those that are left are not read.
+    /// Why the rest of the bytes was not read.
     fault: Option<FeedFault>,
 }
 
-/// What became of what stands at a place of the bytes.
+/// What became of the frame at a place of the bytes.
 #[derive(Clone, Copy)]
 enum FrameAnswer {
-    /// A frame of so many bytes was delivered.
+    /// A frame of this size was delivered.
     Taken(usize),
-    /// It was refused, and nothing changed.
+    /// It was refused with this fault, and nothing changed.
     Refused(FeedFault),
     NoMemory,
 }
 
 /// Runs one end of a schema by its side of a script, with at most `limit` events, against bytes,
-/// whatever they are. The only error is want of memory.
+/// whatever they are. Fails only if memory runs out.
 pub fn feed(
     alloc: Global,
     schema: &Schema,
@@ -82,11 +83,11 @@ pub fn feed(
     side: Side,
     limit: u32,
     bytes: &[u8],
-) -> Result<Fed, AllocError>
+) -> Result<FeedResult, AllocError>
     requires sound { IsSound schema.now }
     requires valid { IsValid schema.now script.now }
     requires small { limit ≤ most_events }
-    ensures { IfOk result (IsFeedOf (record { schema = schema.now; script = script.now; side = side; limit = limit }) bytes.now) }
+    ensures { IfOk result (IsFeedOf (record { schema = schema.now; script = script.now; stop = None; limit = limit }) side bytes.now) }
 {
     let mut half = Half::open(alloc, side, schema, script, None, limit)?;
     let mut trace = FeedTrace {
@@ -96,23 +97,23 @@ pub fn feed(
     };
     are_bytes(bytes);
     let spent = do_turns(alloc, &mut half, &mut trace, bytes)?;
-    Ok(Fed {
+    Ok(FeedResult {
         history: trace.history,
         spent,
         fault: trace.fault,
     })
 }
 
-// Does turns until there is nothing to do, or the end is spent, which it tells.
+// Makes turns until there is nothing to do or the end is spent. Returns whether it is spent.
 fn do_turns(
     alloc: Global,
     half: &mut Half<'_>,
     trace: &mut FeedTrace,
     bytes: &[u8],
 ) -> Result<bool, AllocError>
-    ghost setting: { FeedSetting }
-    requires { HasCome setting bytes.now half.old trace.old }
-    ensures { IfOk result (λ spent. HasEnded setting bytes.now spent half.new trace.new) }
+    ghost feed: { Setting × Side }
+    requires { HasCome feed.0 feed.1 bytes.now half.old trace.old }
+    ensures { IfOk result (λ spent. HasEnded feed.0 feed.1 bytes.now spent half.new trace.new) }
 {
     loop {
         match do_turn(alloc, half, trace, bytes) {
@@ -124,11 +125,11 @@ fn do_turns(
     }
 }
 
-// A turn of the feed.
+// Makes a turn of the feed.
 fn do_turn(alloc: Global, half: &mut Half<'_>, trace: &mut FeedTrace, bytes: &[u8]) -> StepAnswer
-    ghost setting: { FeedSetting }
-    requires { HasCome setting bytes.now half.old trace.old }
-    ensures { TurnGives setting bytes.now trace.old result half.new trace.new }
+    ghost feed: { Setting × Side }
+    requires { HasCome feed.0 feed.1 bytes.now half.old trace.old }
+    ensures { TurnGives feed.0 feed.1 bytes.now trace.old result half.new trace.new }
 {
     match own_turn(half, trace) {
         StepAnswer::Nothing => reading_turn(alloc, half, trace, bytes),
@@ -136,7 +137,7 @@ fn do_turn(alloc: Global, half: &mut Half<'_>, trace: &mut FeedTrace, bytes: &[u
     }
 }
 
-// An own step of the end, whose lines are stored. `Nothing` comes exactly where it has none.
+// Makes an own step of the half and stores its lines. Returns `Nothing` exactly if it has no own step.
 fn own_turn(half: &mut Half<'_>, trace: &mut FeedTrace) -> StepAnswer
     ghost progress: { Progress }
     requires { MayGoOn half.old progress }
@@ -148,7 +149,7 @@ fn own_turn(half: &mut Half<'_>, trace: &mut FeedTrace) -> StepAnswer
     }
 }
 
-// Stores the lines of the end. `Did` comes, unless memory runs out.
+// Stores the lines of the half. Returns `Did`, unless memory runs out.
 fn store(half: &mut Half<'_>, trace: &mut FeedTrace) -> StepAnswer
     ensures { StoreGives half.old trace.old result half.new trace.new }
 {
@@ -158,17 +159,17 @@ fn store(half: &mut Half<'_>, trace: &mut FeedTrace) -> StepAnswer
     }
 }
 
-// An end without an own step looks at the bytes, where it is open.
+// Looks at the bytes, if the end is open. The half has no own step.
 fn reading_turn(
     alloc: Global,
     half: &mut Half<'_>,
     trace: &mut FeedTrace,
     bytes: &[u8],
 ) -> StepAnswer
-    ghost setting: { FeedSetting }
-    requires come { HasCome setting bytes.now half.old trace.old }
-    requires rests { RestsAt setting half.old trace.old }
-    ensures { TurnGives setting bytes.now trace.old result half.new trace.new }
+    ghost feed: { Setting × Side }
+    requires come { HasCome feed.0 feed.1 bytes.now half.old trace.old }
+    requires rests { RestsAt feed.0 feed.1 half.old trace.old }
+    ensures { TurnGives feed.0 feed.1 bytes.now trace.old result half.new trace.new }
 {
     if !half.is_open() {
         StepAnswer::Nothing
@@ -179,14 +180,14 @@ fn reading_turn(
     }
 }
 
-// An open end that may have one more event has what stands at its place delivered, where it takes
-// that, and else the mark of a death.
+// Delivers the frame at the place of an open end that may have one more event, or the mark of a death
+// if the end does not take it.
 fn read_on(alloc: Global, half: &mut Half<'_>, trace: &mut FeedTrace, bytes: &[u8]) -> StepAnswer
-    ghost at: { FeedSetting × Progress }
-    requires come { HasCome at.0 bytes.now half.old trace.old }
-    requires progress { at.1 ≡ progress_in at.0 trace.old }
-    requires may { MayRead at.0 half.old trace.old }
-    ensures { TurnGives at.0 bytes.now trace.old result half.new trace.new }
+    ghost at: { Setting × Side × Progress }
+    requires come { HasCome at.0 at.1 bytes.now half.old trace.old }
+    requires progress { at.2 ≡ progress_in at.1 trace.old }
+    requires may { MayRead at.0 at.1 half.old trace.old }
+    ensures { TurnGives at.0 at.1 bytes.now trace.old result half.new trace.new }
 {
     let (_, left) = bytes.split_at(trace.place);
     match deliver_frame(alloc, half, trace.place, left) {
@@ -202,7 +203,7 @@ fn read_on(alloc: Global, half: &mut Half<'_>, trace: &mut FeedTrace, bytes: &[u
     }
 }
 
-// Has the frame delivered that is left at a place, if one is and the end takes it.
+// Delivers the frame that the rest of the bytes begins with, if there is one and the end takes it.
 fn deliver_frame(alloc: Global, half: &mut Half<'_>, place: usize, left: &[u8]) -> FrameAnswer
     ghost progress: { Progress }
     requires may { MayBeGiven half.old progress }
@@ -210,14 +211,17 @@ fn deliver_frame(alloc: Global, half: &mut Half<'_>, place: usize, left: &[u8]) 
     ensures { FrameGives half.old progress (frame_at half.old.end.schema half.old.end.end place (begins NEW half.old.end.schema left.now)) result half.new }
 {
     match decode(alloc, half.schema(), left) {
-        Decoded::Frame(message, size) => deliver_message(half, place, message, size),
-        Decoded::Short(missing) => FrameAnswer::Refused(FeedFault::Short(place, missing)),
-        Decoded::Bad(offset, rule) => FrameAnswer::Refused(FeedFault::Bad(place + offset, rule)),
-        Decoded::NoMemory => FrameAnswer::NoMemory,
+        DecodeResult::Frame(message, size) => deliver_message(half, place, message, size),
+        DecodeResult::Short(missing) => FrameAnswer::Refused(FeedFault::Short(place, missing)),
+        DecodeResult::Bad(offset, rule) => FrameAnswer::Refused(FeedFault::Bad(
+            place + offset,
+            rule,
+        )),
+        DecodeResult::NoMemory => FrameAnswer::NoMemory,
     }
 }
 
-// Has a message delivered, if the end takes it, whose frame has this size and stands at a place.
+// Delivers a message if the end takes it. Its frame has this size and is at this place.
 fn deliver_message(half: &mut Half<'_>, place: usize, message: Message, size: usize) -> FrameAnswer
     ghost progress: { Progress }
     requires may { MayBeGiven half.old progress }
@@ -237,7 +241,7 @@ fn deliver_message(half: &mut Half<'_>, place: usize, message: Message, size: us
     }
 }
 
-// The fault that is kept of bytes that are left: none where there are none.
+// Returns the fault that is kept of the rest of the bytes, or `None` if no bytes are left.
 fn kept_fault(left: &[u8], fault: FeedFault) -> Option<FeedFault>
     ensures { result ≡ kept_fault left.now fault }
 {
@@ -247,7 +251,7 @@ fn kept_fault(left: &[u8], fault: FeedFault) -> Option<FeedFault>
     }
 }
 
-// Has the mark of a death delivered, and stores the lines of that.
+// Delivers the mark of a death, and stores the lines of that.
 fn break_off(half: &mut Half<'_>, trace: &mut FeedTrace) -> StepAnswer
     ghost progress: { Progress }
     requires { MayBeGiven half.old progress }

@@ -1,5 +1,6 @@
+//! One side of a run.
 ghost use Rattle.std.specs.Prelude.{◌≡◌, ◌<◌, ◌^◌, IfOk, length};
-ghost use Rattle.channel_model.specs.Numbers.{other};
+ghost use Rattle.ipdl_base.specs.Sides.{other};
 ghost use Rattle.ipdl_base.specs.Sound.{IsSound};
 ghost use Rattle.script_steps.specs.Progress.{Progress};
 
@@ -9,15 +10,13 @@ mod ending;
 mod fed;
 mod meeting;
 mod next;
-mod parts;
 mod returning;
 mod taking;
 mod terms;
 
 use self::next::NextStep;
-pub use self::parts::HalfParts;
 use crate::answers::StepAnswer;
-use crate::counts::Counts;
+use crate::counts::ScriptCounts;
 use crate::link::Link;
 use channel_core::{DeliverAnswer, End, EndState, Packet};
 use handler_script::Script;
@@ -37,7 +36,7 @@ pub struct Half<'s> {
     script: &'s Script,
     stop: Option<Stop>,
     limit: u32,
-    counts: Counts,
+    counts: ScriptCounts,
     /// The lines that were taken over from the end.
     history: History,
 }
@@ -82,7 +81,7 @@ impl<'s> Half<'s> {
     ghost use Rattle.world_core.specs.HalfView.{IsCountedBy, appended};
     ghost use Rattle.world_core.specs.LinkView.{IsAppended, LinkHasRoom};
 
-    /// A side of a run as it begins. The only error is want of memory.
+    /// Creates a side of a run as it begins. Fails only if memory runs out.
     pub(crate) fn open(
         alloc: Global,
         side: Side,
@@ -113,12 +112,12 @@ impl<'s> Half<'s> {
             script,
             stop,
             limit,
-            counts: Counts::new(alloc, script, side)?,
+            counts: ScriptCounts::new(alloc, script, side)?,
             history: History::new(alloc),
         })
     }
 
-    /// One own step, at a known progress.
+    /// Makes one own step, at a known progress.
     pub(crate) fn own_step(&mut self) -> StepAnswer
         ghost progress: { Progress }
         requires { MayGoOn self.old progress }
@@ -131,7 +130,7 @@ impl<'s> Half<'s> {
         }
     }
 
-    // Does what is next.
+    // Makes the step that is next.
     fn do_step(&mut self, step: NextStep) -> StepAnswer
         ghost progress: { Progress }
         requires may { MayGoOn self.old progress }
@@ -174,7 +173,7 @@ impl<'s> Half<'s> {
         }
     }
 
-    /// Whether the end is open. It takes no memory.
+    /// Returns whether the end is open. Takes no memory.
     pub fn is_open(&self) -> bool
         ensures { result ≡ is_open self.now.end.end.state }
     {
@@ -184,7 +183,7 @@ impl<'s> Half<'s> {
         }
     }
 
-    // Whether the side has fewer events than it may have.
+    // Returns whether the side has fewer events than it may have.
     fn may_count(&self) -> bool
         ensures says { result ≡ nat_lt self.now.counts.events self.now.limit }
         ensures room { nat_lt self.now.counts.events self.now.limit ≡ true → self.now.counts.events < 4294967295 }
@@ -192,14 +191,14 @@ impl<'s> Half<'s> {
         self.counts.events() < self.limit
     }
 
-    /// Whether the side has as many events as it may have.
+    /// Returns whether the number of events of the side has reached its limit.
     pub(crate) fn is_spent(&self) -> bool
         ensures { result ≡ not (nat_lt self.now.counts.events self.now.limit) }
     {
         self.counts.events() >= self.limit
     }
 
-    /// Has a packet of the other side delivered.
+    /// Delivers a packet of the other side.
     pub(crate) fn deliver(&mut self, packet: &Packet) -> StepAnswer
         ghost progress: { Progress }
         requires counted { IsCountedBy self.old progress }
@@ -221,24 +220,14 @@ impl<'s> Half<'s> {
         }
     }
 
-    /// Appends the lines and packets of the half to the link. It takes no memory, since the link has
-    /// room for them.
+    /// Appends the lines and packets of the half to the link. Takes no memory, since the link has room for
+    /// them.
     pub(crate) fn append(&mut self, link: &mut Link)
         requires { LinkHasRoom link.old (length self.old.end.lines) (other self.old.end.end.side) (length self.old.end.packets) }
         ensures half { self.new ≡ appended self.old }
         ensures link { IsAppended link.old self.old.end.lines (other self.old.end.end.side) self.old.end.packets link.new }
     {
-        let toward = other(self.end.side());
+        let toward = self.end.side().other();
         link.append(&mut self.end, toward);
-    }
-}
-
-/// The other side.
-pub(crate) fn other(side: Side) -> Side
-    ensures { result ≡ other side }
-{
-    match side {
-        Side::Parent => Side::Child,
-        Side::Child => Side::Parent,
     }
 }

@@ -1,12 +1,14 @@
+//! What holds of halves of a run, and of feeds.
 ghost use Rattle.world_core.specs.FeedLaws.{FeedTurnsArePossible, FeedsComeToAnEnd};
-ghost use Rattle.world_core.specs.Halves.{HalvesFitBehindMore, StoredLinesFollow};
+ghost use Rattle.world_core.specs.Halves.{HalvesFitAfterMore, StoredLinesFollow};
 
 /// The law of halves: what the other side does alone changes nothing of a half.
-pub fn halves_fit_behind_more()
-    ensures { HalvesFitBehindMore }
+pub fn halves_fit_after_more()
+    ensures { HalvesFitAfterMore }
 {}
 
-/// The law of stored lines: behind the lines that a half fits they are a history of the script.
+/// The law of stored lines: after the lines that a half fits, its stored lines are a history of the
+/// script.
 pub fn stored_lines_follow()
     ensures { StoredLinesFollow }
 {}

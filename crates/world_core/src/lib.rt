@@ -1,6 +1,6 @@
-//! A run of two ends by a handler script: step by step, by a word of turns, or by a driver
-//! (docs/scripts.md). The history of every run is one of the script. And one end by itself against
-//! any bytes (docs/feed.md); and both ends of a run apart from one another (docs/relay.md).
+//! Runs two ends by a handler script: step by step, by a word of turns, or by a driver
+//! (docs/scripts.md). The history of every run is a history of the script. Also runs one end by itself
+//! against any bytes (docs/feed.md), and both ends of a run separately (docs/relay.md).
 #![tactic(auto)]
 
 mod answers;
@@ -17,10 +17,10 @@ mod world;
 pub use answers::{AcceptAnswer, MeetAnswer, RunAnswer, StepAnswer};
 pub use driver::{Driver, OneThread};
 pub use feed_runs::FeedFault;
-pub use feeding::{Fed, feed};
-pub use half::{Half, HalfParts};
+pub use feeding::{FeedResult, feed};
+pub use half::Half;
 pub use laws::{
-    feed_turns_are_possible, feeds_come_to_an_end, halves_fit_behind_more, stored_lines_follow,
+    feed_turns_are_possible, feeds_come_to_an_end, halves_fit_after_more, stored_lines_follow,
 };
 pub use link::Link;
 pub use relay::{Halves, Relay, take_turns, turn_answer};

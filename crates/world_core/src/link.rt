@@ -1,3 +1,4 @@
+//! The link of a run: its history, and the packets in transit.
 ghost use Rattle.std.specs.Prelude.{◌≡◌, ◌+◌, ◌≤◌, [], ◌++◌, length, map, drop, option_map, IfOk};
 ghost use Rattle.std.specs.VecDeque.{deque_capacity};
 ghost use Rattle.handler_script.specs.ScriptOf.{first_of};
@@ -11,7 +12,7 @@ use std::alloc::{AllocError, Global};
 use std::collections::VecDeque;
 use std::marker::Model;
 
-/// The history of both sides, and the packets that wait for each.
+/// The history of both sides, and the packets that wait for each side.
 #[derive(Drop)]
 pub struct Link {
     history: History,
@@ -42,8 +43,8 @@ impl Model for Link {
 }
 
 impl Link {
-    /// An empty link with room for so many lines, and so many packets toward each side. The only
-    /// error is want of memory.
+    /// Creates an empty link with room for this number of lines, and this number of packets toward each
+    /// side. Fails only if memory runs out.
     pub(crate) fn open(alloc: Global, lines: usize, packets: usize) -> Result<Link, AllocError>
         ensures empty { IfOk result (λ link. link ≡ record {
           lines = [];
@@ -70,21 +71,21 @@ impl Link {
         })
     }
 
-    /// The history. It takes no memory.
+    /// Returns the history. Takes no memory.
     pub fn history(&self) -> &History
         ensures { map plain_line result.now.lines ≡ self.now.lines }
     {
         &self.history
     }
 
-    /// How many lines the history has. It takes no memory.
+    /// Returns the number of lines of the history. Takes no memory.
     pub fn lines(&self) -> usize
         ensures { result ≡ length self.now.lines }
     {
         self.history.lines().len()
     }
 
-    /// How many packets wait for a side. It takes no memory.
+    /// Returns the number of packets that wait for a side. Takes no memory.
     pub fn left(&self, toward: Side) -> usize
         ensures { result ≡ length (packets_to toward self.now) }
     {
@@ -94,7 +95,7 @@ impl Link {
         }
     }
 
-    /// The packet that waits for a side and is delivered next. It takes no memory.
+    /// Returns the packet that is delivered next to a side. Takes no memory.
     pub(crate) fn first(&self, toward: Side) -> Option<&Packet>
         ensures { option_map (λ packet. packet.now) result ≡ first_of (packets_to toward self.now) }
     {
@@ -104,7 +105,7 @@ impl Link {
         }
     }
 
-    /// The first packet that waits for a side goes.
+    /// Removes the first packet that waits for a side.
     pub(crate) fn drop_first(&mut self, toward: Side)
         ensures { self.new ≡ with_packets_to toward (drop 1 (packets_to toward self.old)) self.old }
     {
@@ -114,8 +115,8 @@ impl Link {
         }
     }
 
-    /// Takes over the lines of an end, and its packets toward a side. It takes no memory, since there
-    /// is room for them.
+    /// Takes over the lines of an end, and its packets toward a side. Takes no memory, since there is room
+    /// for them.
     pub(crate) fn append(&mut self, end: &mut End<'_>, toward: Side)
         requires { LinkHasRoom self.old (length end.old.lines) toward (length end.old.packets) }
         ensures end { end.new ≡ record end.old { lines = []; packets = [] } }
@@ -132,7 +133,7 @@ impl Link {
     }
 }
 
-// The first packet goes.
+// Removes the first packet.
 fn drop_front(packets: &mut VecDeque<Packet>)
     ensures items { packets.new.items ≡ drop 1 packets.old.items }
     ensures capacity { deque_capacity packets.new ≡ deque_capacity packets.old }
@@ -140,7 +141,7 @@ fn drop_front(packets: &mut VecDeque<Packet>)
     let _ = packets.pop_front();
 }
 
-// Moves the packets of an end behind others, for which there is room.
+// Appends the packets of an end to a queue that has room for them.
 fn move_packets(end: &mut End<'_>, into: &mut VecDeque<Packet>)
     requires { length into.old.items + length end.old.packets ≤ deque_capacity into.old }
     ensures end { end.new ≡ record end.old { packets = [] } }

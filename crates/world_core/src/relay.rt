@@ -1,4 +1,4 @@
-//! Both ends of a run apart from one another (docs/relay.md).
+//! Runs both ends of a run separately (docs/relay.md).
 ghost use Rattle.std.specs.Prelude.{◌≡◌, None};
 ghost use Rattle.world_core.specs.HalfSteps.{next_of};
 ghost use Rattle.world_core.specs.Relaying.{AreFacing, BothApart, BothInEach, FacingEach, IsRelayed, IsRelayedByTurns, RelayGives, RelayTurnGives, SideTurnGives, TurnsGive, own_progress, turn_answer};
@@ -8,24 +8,24 @@ ghost use Rattle.world_core.specs.declared.relay.Halves.{Halves as OfHalves};
 
 use crate::answers::{AcceptAnswer, RunAnswer, StepAnswer};
 use crate::driver::OneThread;
-use crate::half::{Half, other};
+use crate::half::Half;
 use crate::world::World;
 use history::History;
 use ipdl_base::Side;
 
-/// The lines of both ends of a run, each by itself.
+/// The lines of both ends of a run, separately.
 #[derive(Drop)]
 pub struct Halves {
     pub parent: History,
     pub child: History,
 }
 
-/// Runs both ends of a world apart from one another, until neither has a step or a packet left.
+/// Runs both ends of a world separately, until neither has a step or a packet left.
 pub trait Relay {
-    /// The world handed in, the halves, and the answer.
+    /// Relates the world handed in, the halves, and the answer.
     ghost Gives: { Self → WorldView → OfHalves → OfRunAnswer → Type 0 };
 
-    /// Whether it may run.
+    /// Whether the relay may run.
     ghost ready: { Self → Type 0 };
 
     fn run_queues<'s>(&mut self, world: World<'s>) -> (Halves, RunAnswer)
@@ -51,8 +51,8 @@ impl Relay for OneThread {
     }
 }
 
-/// Turns of both halves, the parent first, until two in a row do nothing. In its turn a half does its
-/// own step, or else, while its end is open, accepts the packet that the other hands out next.
+/// Makes turns of both halves, the parent first, until two turns in a row do nothing. In its turn a half
+/// makes its own step, or else, while its end is open, accepts the next packet that the other hands out.
 pub fn take_turns(parent: &mut Half<'_>, child: &mut Half<'_>) -> RunAnswer
     requires { BothApart parent.old child.old }
     ensures { BothInEach parent.old child.old (λ setting state. TurnsGive setting state result parent.new child.new) }
@@ -61,7 +61,7 @@ pub fn take_turns(parent: &mut Half<'_>, child: &mut Half<'_>) -> RunAnswer
     let mut left = 2u32;
     while left > 0 {
         let turn = side;
-        side = other(side);
+        side = side.other();
         match side_turn(parent, child, turn) {
             StepAnswer::Did => left = 2,
             StepAnswer::Nothing => left -= 1,
@@ -72,7 +72,7 @@ pub fn take_turns(parent: &mut Half<'_>, child: &mut Half<'_>) -> RunAnswer
     RunAnswer::Finished
 }
 
-// A turn of a side.
+// Makes a turn of a side.
 fn side_turn(parent: &mut Half<'_>, child: &mut Half<'_>, side: Side) -> StepAnswer
     requires { BothApart parent.old child.old }
     ensures { BothInEach parent.old child.old (λ setting state. SideTurnGives setting side state result parent.new child.new) }
@@ -83,7 +83,7 @@ fn side_turn(parent: &mut Half<'_>, child: &mut Half<'_>, side: Side) -> StepAns
     }
 }
 
-// A turn of a half, which the other one faces.
+// Makes a turn of a half, which faces the other half.
 fn relay_turn(half: &mut Half<'_>, facing: &mut Half<'_>) -> StepAnswer
     requires { AreFacing half.old facing.old }
     ensures { FacingEach half.old facing.old (λ setting side state. RelayTurnGives setting side state result half.new facing.new) }
@@ -94,7 +94,7 @@ fn relay_turn(half: &mut Half<'_>, facing: &mut Half<'_>) -> StepAnswer
     }
 }
 
-// A half without an own step accepts what comes next, where it is open.
+// Accepts the packet that comes next, if the end is open. The half has no own step.
 fn receive(half: &mut Half<'_>, facing: &mut Half<'_>) -> StepAnswer
     requires facing { AreFacing half.old facing.old }
     requires rests { next_of half.old (own_progress half.old) ≡ None }
@@ -109,7 +109,7 @@ fn receive(half: &mut Half<'_>, facing: &mut Half<'_>) -> StepAnswer
     }
 }
 
-/// What a turn answers, by what a half answers to a packet.
+/// Returns what a turn answers, by what a half answers to a packet.
 pub fn turn_answer(answer: AcceptAnswer) -> StepAnswer
     ensures { result ≡ turn_answer answer }
 {

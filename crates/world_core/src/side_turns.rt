@@ -15,7 +15,7 @@ use channel_core::Packet;
 use ipdl_base::Side;
 use schedules::Turn;
 
-/// A turn of a side.
+/// Makes a turn of a side.
 pub(crate) fn turn_of(half: &mut Half<'_>, link: &mut Link, turn: Turn) -> StepAnswer
     ghost at: { WorldView × EndSide }
     requires stands { StandsIn at.0 at.1 half.old link.old }
@@ -31,7 +31,7 @@ pub(crate) fn turn_of(half: &mut Half<'_>, link: &mut Link, turn: Turn) -> StepA
     }
 }
 
-// An own step of a side.
+// Makes an own step of a side.
 fn own_turn(half: &mut Half<'_>, link: &mut Link) -> StepAnswer
     ghost at: { WorldView × EndSide }
     requires { StandsIn at.0 at.1 half.old link.old }
@@ -46,7 +46,7 @@ fn own_turn(half: &mut Half<'_>, link: &mut Link) -> StepAnswer
     }
 }
 
-/// A delivery to a side.
+/// Makes a delivery to a side.
 pub(crate) fn delivery_turn(half: &mut Half<'_>, link: &mut Link, side: Side) -> StepAnswer
     ghost at: { WorldView × EndSide }
     requires stands { StandsIn at.0 at.1 half.old link.old }
@@ -62,14 +62,14 @@ pub(crate) fn delivery_turn(half: &mut Half<'_>, link: &mut Link, side: Side) ->
     }
 }
 
-// Whether an end is open and a packet waits for it.
+// Returns whether an end is open and a packet waits for it.
 fn may_deliver(half: &Half<'_>, link: &Link, side: Side) -> bool
     ensures { result ≡ (is_open half.now.end.end.state && is_some (first_of (packets_to side link.now))) }
 {
     half.is_open() && link.first(side).is_some()
 }
 
-// The delivery of the packet that comes first.
+// Delivers the packet that comes first.
 fn deliver_first(half: &mut Half<'_>, link: &mut Link, side: Side) -> StepAnswer
     ghost at: { WorldView × EndSide }
     requires stands { StandsIn at.0 at.1 half.old link.old }
@@ -104,7 +104,7 @@ fn hand_over(half: &mut Half<'_>, link: &Link, side: Side) -> StepAnswer
     }
 }
 
-/// Each element of a frame is a byte.
+/// Shows that each element of a frame is a byte.
 pub(crate) fn holds_bytes(packet: &Packet)
     ensures { HoldsBytes packet.now }
 {
@@ -114,7 +114,7 @@ pub(crate) fn holds_bytes(packet: &Packet)
     }
 }
 
-/// Each element of a slice is a byte.
+/// Shows that each element of a slice is a byte.
 pub(crate) fn are_bytes(bytes: &[u8])
     ensures { AreBytes bytes.now }
 {

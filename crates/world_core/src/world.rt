@@ -1,3 +1,4 @@
+//! A run of both sides by a script, on one thread.
 ghost use Rattle.std.specs.Prelude.{◌≡◌, ◌≤◌, [], map, IfOk};
 ghost use Rattle.end_parts.specs.PlainLines.{plain_line};
 ghost use Rattle.handler_script.specs.Valid.{IsValid};
@@ -11,7 +12,7 @@ mod replay;
 
 pub use self::replay::Replay;
 use crate::answers::{RunAnswer, StepAnswer};
-use crate::half::{Half, other};
+use crate::half::Half;
 use crate::link::Link;
 use crate::side_turns::turn_of;
 use handler_script::Script;
@@ -22,8 +23,7 @@ use schedules::{Stop, Turn};
 use std::alloc::{AllocError, Global};
 use std::marker::Model;
 
-/// A run of two ends by a script (docs/scripts.md). Contracts see what it is about and how far it
-/// has come.
+/// A run of two ends by a script (docs/scripts.md). Contracts see its setting and its state.
 #[derive(Drop)]
 pub struct World<'s> {
     schema: &'s Schema,
@@ -63,7 +63,7 @@ impl<'s> World<'s> {
     ghost use Rattle.world_core.specs.WorldView.{opening_of};
     ghost use Rattle.world_core.specs.Worlds.{IsCase, IsLawful, most_events};
 
-    /// The run as it begins, with room for all that may come. The only error is want of memory.
+    /// Creates the run as it begins, with room for all that may come. Fails only if memory runs out.
     pub fn open(
         alloc: Global,
         schema: &'s Schema,
@@ -84,7 +84,7 @@ impl<'s> World<'s> {
         Ok(World::begin(schema, script, stop, limit, halves, link))
     }
 
-    // The run that begins with these halves.
+    // Creates the run that begins with these halves.
     fn begin(
         schema: &'s Schema,
         script: &'s Script,
@@ -117,8 +117,8 @@ impl<'s> World<'s> {
         world
     }
 
-    /// One turn of a side. `Nothing` comes exactly where it does nothing, and `Spent` exactly where
-    /// it does something but the side has as many events as it may have.
+    /// Makes one turn of a side. Returns `Nothing` exactly if the side has nothing to do, and `Spent` exactly
+    /// if it has something to do but has reached its limit of events.
     pub fn step(&mut self, turn: Turn) -> StepAnswer
         ensures gives { TurnGives self.old turn result self.new }
         ensures case { IsCase self.new }
@@ -132,8 +132,8 @@ impl<'s> World<'s> {
         answer
     }
 
-    /// The turns of a word, and behind it both sides in turn, the parent first, until neither has a
-    /// step or a delivery left: `Finished` comes exactly there, and no end waits for a reply.
+    /// Makes the turns of a word, and after it turns of both sides, the parent first, until neither has a
+    /// step or a delivery left. Returns `Finished` exactly then, and then no end waits for a reply.
     pub fn run_schedule(&mut self, word: &[Turn]) -> RunAnswer
         ensures gives { WordGives self.old word.now result self.new }
         ensures same { self.new.setting ≡ self.old.setting }
@@ -155,7 +155,7 @@ impl<'s> World<'s> {
         answer
     }
 
-    // Both sides in turn, the parent first, until two turns in a row do nothing.
+    // Makes turns of both sides, the parent first, until two turns in a row do nothing.
     fn run_to_rest(&mut self) -> RunAnswer
         ensures gives { WordGives self.old [] result self.new }
         ensures same { self.new.setting ≡ self.old.setting }
@@ -169,7 +169,7 @@ impl<'s> World<'s> {
         let mut left = 2u32;
         while left > 0 {
             let turn = Turn::whole(side);
-            side = other(side);
+            side = side.other();
             match self.step(turn) {
                 StepAnswer::Did => left = 2,
                 StepAnswer::Nothing => left -= 1,
@@ -180,7 +180,7 @@ impl<'s> World<'s> {
         RunAnswer::Finished
     }
 
-    // The history is the script's own, and every law holds of it.
+    // Shows that the history is a history of the script, and that every law holds of it.
     fn is_lawful(&self)
         ensures sound { IsSound self.now.setting.schema }
         ensures case { IsCase self.now }
@@ -189,7 +189,7 @@ impl<'s> World<'s> {
         let _limit = self.limit;
     }
 
-    /// The history. It takes no memory.
+    /// Returns the history. Takes no memory.
     pub fn history(&self) -> &History
         ensures lines { map plain_line result.now.lines ≡ self.now.state.lines }
         ensures case { IsCase self.now }
@@ -199,8 +199,8 @@ impl<'s> World<'s> {
         self.link.history()
     }
 
-    /// The text that a transcript prints of the history (docs/transcripts.md). The only error is want
-    /// of memory.
+    /// Returns the text that a transcript prints of the history (docs/transcripts.md). Fails only if
+    /// memory runs out.
     pub fn transcript(&self, alloc: Global) -> Result<Vec<u8>, AllocError>
         ensures { IfOk result (λ text. text.items ≡ transcript_text self.now.setting.schema self.now.state.lines) }
     {
@@ -210,7 +210,7 @@ impl<'s> World<'s> {
     }
 }
 
-// Both sides of a run as it begins, the parent first.
+// Creates both sides of a run as it begins, the parent first.
 fn open_halves<'s>(
     alloc: Global,
     schema: &'s Schema,

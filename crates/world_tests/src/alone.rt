@@ -1,9 +1,10 @@
-//! A plain test of the law of one end (docs/laws.md, "One end by itself"), by the numbers that lines name.
+//! A plain test of the law of one end (docs/laws.md, "One end by itself"), by the numbers in its lines.
+
 ghost use Rattle.ipdl_base.specs.Sound.{IsSound};
 
 use ipdl_base::{Line, Reason, Schema, What, is_effect};
 
-/// Whether lines tell that a reply to the request of a number was delivered.
+/// Returns whether lines show that a reply to the request with a number was delivered.
 fn has_reply(lines: &[Line], number: i32) -> bool {
     for line in lines {
         if let What::DeliverReply(seq) = line.what {
@@ -15,7 +16,7 @@ fn has_reply(lines: &[Line], number: i32) -> bool {
     false
 }
 
-/// Whether lines tell that the call of a number has failed.
+/// Returns whether lines show that the call with a number has failed.
 fn has_failed(lines: &[Line], number: i32) -> bool {
     for line in lines {
         if let What::Fails(seq) = line.what {
@@ -27,7 +28,7 @@ fn has_failed(lines: &[Line], number: i32) -> bool {
     false
 }
 
-/// How often lines tell that the promise of a number is settled.
+/// Returns how often lines show that the promise with a number is settled.
 fn settled(lines: &[Line], number: i32) -> u32 {
     let mut count = 0u32;
     for line in lines {
@@ -41,7 +42,7 @@ fn settled(lines: &[Line], number: i32) -> u32 {
     count
 }
 
-/// Whether a line is that of a closing.
+/// Returns whether a line closes its end, by a close, a shutdown or a death.
 fn is_closing(what: &What) -> bool {
     matches!(
         what,
@@ -49,7 +50,7 @@ fn is_closing(what: &What) -> bool {
     )
 }
 
-/// Whether the last of these lines that is an event is that of a closing.
+/// Returns whether the last event in these lines closes the end.
 fn closes(lines: &[Line]) -> bool {
     let mut closing = false;
     for line in lines {
@@ -60,7 +61,7 @@ fn closes(lines: &[Line]) -> bool {
     closing
 }
 
-/// Whether what a line says of a promise or a call has its cause in the lines before it.
+/// Returns whether what a line shows of a promise or a call has its cause in the lines before it.
 fn has_cause(before: &[Line], what: &What) -> bool {
     match what {
         What::Resolved(seq, _) => settled(before, *seq) == 0 && has_reply(before, *seq),
@@ -74,7 +75,7 @@ fn has_cause(before: &[Line], what: &What) -> bool {
     }
 }
 
-/// Whether a request makes a promise.
+/// Returns whether a request makes a promise.
 fn wants_reply(schema: &Schema, number: u32) -> bool
     requires { IsSound schema.now }
 {
@@ -84,7 +85,7 @@ fn wants_reply(schema: &Schema, number: u32) -> bool
     }
 }
 
-/// Whether all promises are settled, if an event closes the end.
+/// Returns whether all promises are settled if an event closes the end.
 fn all_settled(schema: &Schema, lines: &[Line]) -> bool
     requires { IsSound schema.now }
 {
@@ -102,7 +103,7 @@ fn all_settled(schema: &Schema, lines: &[Line]) -> bool
     true
 }
 
-/// Whether lines of one end are as the law wants them.
+/// Returns whether lines of one end obey the law.
 pub fn is_alone(schema: &Schema, lines: &[Line]) -> bool
     requires { IsSound schema.now }
 {

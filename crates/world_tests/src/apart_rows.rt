@@ -1,6 +1,8 @@
-/// Runs in the order in which halves make them that go on apart, in the form of `worked_runs::RUNS`: each side
-/// does own steps until it rests, the parent hands in, and the child and then the parent meet the
-/// link. Each has the word of turns that makes it too.
+//! Rows of runs whose halves run separately.
+
+/// Runs in the order in which separate halves make them, in the form of `worked_runs::RUNS`: each side
+/// makes its own steps until it rests, the parent hands in, and then the child and the parent meet the
+/// link. Each has a word of turns that makes the same run.
 pub const APART: &str = "calls-cross PW.ipdl PCcp 10000 -
 parent main
 send top PW.CallC()
@@ -112,9 +114,9 @@ parent shut AbnormalShutdown
 finished
 ";
 
-/// Which runs halves make in exactly the order of the rows with these names: of each row, whether the
-/// parent's end is open or shut behind it, and how many packets wait for the parent; and the same of
-/// the child.
+/// The rows whose runs halves make in exactly the same order. Each has the name of the row, whether the
+/// parent's end is open or shut after it, how many packets wait for the parent, and the same for the
+/// child.
 pub const HALVES: &str = "calls-cross open 0 open 0
 requests-cross open 0 open 0
 close-in-a-handler shut 0 shut 0

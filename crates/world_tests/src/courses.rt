@@ -1,3 +1,5 @@
+//! How a run of a test goes, and what it prints.
+
 ghost use Rattle.std.specs.Prelude.{◌≡◌, IfOk};
 ghost use Rattle.ipdl_base.specs.Sound.{IsSound};
 ghost use Rattle.handler_script.specs.Valid.{IsValid};
@@ -9,23 +11,27 @@ use std::alloc::Global;
 use std::test::Fail;
 use world_core::{Driver, OneThread, RunAnswer, Stop, Turn, World};
 
-/// How a run goes: by this word of turns, with so many events of a side at most, and with the death
-/// of an end.
+/// How a run goes: its word of turns, the greatest number of events of a side, and the death of an end.
 #[derive(Drop)]
 pub struct Course {
+    /// The word of turns.
     pub word: Vec<Turn>,
+    /// The greatest number of events of a side.
     pub limit: u32,
+    /// The death of an end, if there is one.
     pub stop: Option<Stop>,
 }
 
 /// What a run prints, and how many laws hold of its history.
 #[derive(Drop)]
 pub struct Printout {
+    /// What the run prints.
     pub text: String,
+    /// How many laws hold of its history.
     pub laws: u32,
 }
 
-/// The turn of a letter.
+/// Returns the turn that a letter names.
 fn turn_of(letter: char) -> Result<Turn, Fail> {
     let (side, only_deliver) = match letter {
         'P' => (Side::Parent, false),
@@ -37,7 +43,7 @@ fn turn_of(letter: char) -> Result<Turn, Fail> {
     Ok(Turn { side, only_deliver })
 }
 
-/// The turns of a word, of which `-` has none.
+/// Returns the turns of a word; `-` is a word without turns.
 pub fn word_of(alloc: Global, letters: &str) -> Result<Vec<Turn>, Fail> {
     let mut word = Vec::new(alloc);
     if letters == "-" {
@@ -49,7 +55,7 @@ pub fn word_of(alloc: Global, letters: &str) -> Result<Vec<Turn>, Fail> {
     Ok(word)
 }
 
-/// The side of a word.
+/// Returns the side that a word names.
 pub fn side_of(word: &str) -> Result<Side, Fail> {
     match word {
         "parent" => Ok(Side::Parent),
@@ -58,7 +64,7 @@ pub fn side_of(word: &str) -> Result<Side, Fail> {
     }
 }
 
-/// The death of an end, or `-` for none.
+/// Returns the death of an end that a text spells; `-` means no death.
 fn stop_of(text: &str) -> Result<Option<Stop>, Fail> {
     if text == "-" {
         return Ok(None);
@@ -70,7 +76,7 @@ fn stop_of(text: &str) -> Result<Option<Stop>, Fail> {
     }))
 }
 
-/// How a run goes, by its word, its limit and the death of an end.
+/// Returns how a run goes, by its word, its limit and the death of an end.
 pub fn course_of(alloc: Global, text: &str) -> Result<Course, Fail> {
     let (letters, rest) = text.split_once(" ").ok_or("a word alone")?;
     let (limit, stop) = rest.split_once(" ").ok_or("a limit without a death")?;
@@ -81,7 +87,7 @@ pub fn course_of(alloc: Global, text: &str) -> Result<Course, Fail> {
     })
 }
 
-/// The last line of what a run prints.
+/// Returns the last line of what a run prints.
 fn ending_of(answer: RunAnswer) -> Result<&'static str, Fail> {
     match answer {
         RunAnswer::Finished => Ok("finished\n"),
@@ -91,7 +97,7 @@ fn ending_of(answer: RunAnswer) -> Result<&'static str, Fail> {
     }
 }
 
-/// What a world prints whose run ended so.
+/// Returns what a world prints whose run ended with this answer.
 pub fn printed_of(
     alloc: Global,
     schema: &Schema,
@@ -109,7 +115,7 @@ pub fn printed_of(
     })
 }
 
-/// The world in which a run begins.
+/// Returns the world at the start of a run.
 pub fn opened<'s>(
     alloc: Global,
     schema: &'s Schema,
@@ -127,7 +133,7 @@ pub fn opened<'s>(
     Ok(World::open(alloc, schema, script, course.stop, course.limit)?)
 }
 
-/// What a run of a script prints.
+/// Returns what a run of a script prints.
 pub fn printed(
     alloc: Global,
     schema: &Schema,
@@ -144,7 +150,7 @@ pub fn printed(
     found
 }
 
-/// What the same run prints where a driver does the turns of its word.
+/// Returns what the same run prints if a driver makes the turns of its word.
 pub fn driven(
     alloc: Global,
     schema: &Schema,

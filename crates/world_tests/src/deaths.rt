@@ -1,3 +1,5 @@
+//! A death of each side after each number of events.
+
 ghost use Rattle.ipdl_base.specs.Sound.{IsSound};
 ghost use Rattle.handler_script.specs.Valid.{IsValid};
 
@@ -12,8 +14,8 @@ use std::alloc::Global;
 use std::test::Fail;
 use worked_runs::{RUNS, row_named};
 
-/// What is wrong with the run in which a side dies once it has so many events: that it does not end,
-/// dies at another event or not at all, or that a law does not hold.
+/// Returns what is wrong with the run in which a side dies once it has `count` events: the run does not
+/// end, the side dies at another event or not at all, or a law does not hold.
 fn fault(
     alloc: Global,
     schema: &Schema,
@@ -33,7 +35,7 @@ fn fault(
     Ok(fault_of_death(run.text.as_str(), death.as_str(), side, count, run.laws))
 }
 
-/// What is wrong with what a run prints in which a side dies.
+/// Returns what is wrong with what a run prints in which a side dies.
 fn fault_of_death(text: &str, death: &str, side: &str, count: u32, laws: u32) -> &'static str {
     let Some((before, _)) = text.split_once(death) else {
         return "no death";
@@ -49,7 +51,7 @@ fn fault_of_death(text: &str, death: &str, side: &str, count: u32, laws: u32) ->
     }
 }
 
-/// Notes each death of a side with which something is wrong, and how many there were.
+/// Notes each wrong death of a side, and how many deaths there were.
 fn check(
     alloc: Global,
     schema: &Schema,
@@ -72,7 +74,7 @@ fn check(
     Ok(())
 }
 
-/// The deaths of each side in the run of a script.
+/// Returns the deaths of each side in the run of a script.
 fn deaths_of(alloc: Global, schema: &Schema, script: &Script) -> Result<String, Fail>
     requires sound { IsSound schema.now }
     requires valid { IsValid schema.now script.now }
@@ -83,7 +85,7 @@ fn deaths_of(alloc: Global, schema: &Schema, script: &Script) -> Result<String, 
     Ok(shown)
 }
 
-/// The deaths of each side under four nested calls.
+/// Returns the deaths of each side under four nested calls.
 fn deaths_under(alloc: Global, schema: &Schema) -> Result<String, Fail>
     requires { IsSound schema.now }
 {
@@ -92,7 +94,7 @@ fn deaths_under(alloc: Global, schema: &Schema) -> Result<String, Fail>
     deaths_of(alloc, schema, &script)
 }
 
-/// The same, by the schema of these calls.
+/// Returns the same with the schema of these calls.
 fn deaths(alloc: Global) -> Result<String, Fail> {
     let schema = schema_of(alloc, "PW.ipdl")?;
     deaths_under(alloc, &schema)

@@ -1,3 +1,5 @@
+//! A row of calls nested as deep as they can be.
+
 /// A worked run of calls nested as deep as they can be, in the form of `worked_runs::RUNS`.
 pub const DEEP: &str = "refused-too-deep PW.ipdl P 10000 -
 parent main

@@ -1,6 +1,9 @@
-/// Worked feeds. Each row: its name, the file of its protocol, the side of its end and the most events that it
-/// may have; then its script; behind `----` the frames, in hexadecimal digits; and behind the next one what the
-/// feed prints, and last the fault that is kept, `-` for none. `====` stands between two rows.
+//! Rows of feeds.
+
+/// Worked feeds. Each row has its name, the file of its protocol, the side of its end and the greatest
+/// number of its events; then its script; after `----` the frames, in hexadecimal digits; and after the
+/// next `----` what the feed prints, and last the fault that is kept, or `-`. `====` separates two
+/// rows.
 pub const FEEDS: &str = "feed-wrong-number PF.ipdl parent 10000
 ----
 4950443204000000ffffff7f0000000000000000ffffffff0000000001000000
@@ -182,8 +185,8 @@ parent shut AbnormalShutdown
 finished
 -";
 
-/// Frames that an end without a script refuses, each at once, so that it is told of a death and shuts. Each row
-/// `NAME: FILE SIDE: FRAME: FAULT`.
+/// Frames that an end without a script refuses, each at once, so that a death is reported to it and it
+/// shuts. Each row is `NAME: FILE SIDE: FRAME: FAULT`.
 pub const REFUSED: &str = "less than a header: PQ.ipdl parent: 495044: Short 0 25
 a header alone: PQ.ipdl parent: 4950443204000000ffffff7f0200000000000000ffffffff00000000: Short 0 4
 the mark is not there: PQ.ipdl parent: 0050443204000000ffffff7f0200000000000000ffffffff0000000005000000: Bad 0 15

@@ -1,3 +1,5 @@
+//! Worked feeds, and frames that an end refuses.
+
 ghost use Rattle.ipdl_base.specs.Sound.{IsSound};
 ghost use Rattle.handler_script.specs.Valid.{IsValid};
 
@@ -10,9 +12,10 @@ use ipdl_base::{Schema, Side};
 use law_checks::{Law, holds};
 use std::alloc::Global;
 use std::test::Fail;
-use world_core::{Fed, FeedFault, feed};
+use world_core::{FeedFault, FeedResult, feed};
 
-/// What is fed: bytes, as hexadecimal digits, to the end of a side that may have so many events.
+/// The input of a feed: bytes, as hexadecimal digits, the side of its end, and the greatest number of
+/// its events.
 #[derive(Clone, Copy)]
 struct Food<'a> {
     side: Side,
@@ -20,7 +23,7 @@ struct Food<'a> {
     digits: &'a str,
 }
 
-/// The bytes that pairs of hexadecimal digits spell. Other characters stand for nothing.
+/// Returns the bytes that pairs of hexadecimal digits spell. Ignores other characters.
 pub fn bytes_of(alloc: Global, digits: &str) -> Result<Vec<u8>, Fail> {
     let mut bytes = Vec::new(alloc);
     let mut high = None;
@@ -39,8 +42,8 @@ pub fn bytes_of(alloc: Global, digits: &str) -> Result<Vec<u8>, Fail> {
     Ok(bytes)
 }
 
-/// The last line of what a feed prints.
-fn ending_of(fed: &Fed, side: Side) -> &'static str {
+/// Returns the last line of what a feed prints.
+fn ending_of(fed: &FeedResult, side: Side) -> &'static str {
     match (fed.spent, side) {
         (false, _) => "finished\n",
         (true, Side::Parent) => "spent parent\n",
@@ -60,8 +63,8 @@ fn push_fault(fault: Option<FeedFault>, out: &mut String) -> Result<(), Fail> {
     Ok(())
 }
 
-/// What a feed prints, and the fault that is kept.
-fn fed_text(alloc: Global, schema: &Schema, fed: &Fed, side: Side) -> Result<String, Fail>
+/// Returns what a feed prints, and the fault that is kept.
+fn fed_text(alloc: Global, schema: &Schema, fed: &FeedResult, side: Side) -> Result<String, Fail>
     requires { IsSound schema.now }
 {
     if !holds(alloc, Law::Fallen, schema, &fed.history)? {
@@ -74,7 +77,7 @@ fn fed_text(alloc: Global, schema: &Schema, fed: &Fed, side: Side) -> Result<Str
     Ok(text)
 }
 
-/// What the end of a side prints that is fed.
+/// Returns what the feed of an end prints.
 fn fed_by(alloc: Global, schema: &Schema, script: &Script, food: Food<'_>) -> Result<String, Fail>
     requires sound { IsSound schema.now }
     requires valid { IsValid schema.now script.now }
@@ -94,14 +97,14 @@ fn fed_by(alloc: Global, schema: &Schema, script: &Script, food: Food<'_>) -> Re
     fed_text(alloc, schema, &fed, food.side)
 }
 
-/// What it prints under the schema of a file, with a script of this text.
+/// Returns what a feed prints with the schema of a file and the script of a text.
 fn printed(alloc: Global, file: &str, text: &str, food: Food<'_>) -> Result<String, Fail> {
     let schema = schema_of(alloc, file)?;
     let script = script_of(alloc, &schema, file, text)?;
     fed_by(alloc, &schema, &script, food)
 }
 
-/// Notes a worked feed that goes otherwise.
+/// Notes a worked feed that prints something else.
 fn check_feed(alloc: Global, row: &str, wrong: &mut String) -> Result<(), Fail> {
     let (head, rest) = row.split_once("\n").ok_or("a row without its script")?;
     let (script, rest) = rest.split_once("----\n").ok_or("a row without its frames")?;
@@ -123,7 +126,7 @@ fn check_feed(alloc: Global, row: &str, wrong: &mut String) -> Result<(), Fail> 
     Ok(())
 }
 
-/// Notes a frame that is not refused, or not so.
+/// Notes a frame that is not refused, or is refused with another fault.
 fn check_refused(alloc: Global, row: &str, wrong: &mut String) -> Result<(), Fail> {
     let (name, rest) = row.split_once(": ").ok_or("a row without its end")?;
     let (end, rest) = rest.split_once(": ").ok_or("a row without its frame")?;

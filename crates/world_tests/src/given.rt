@@ -1,3 +1,5 @@
+//! Scripts of the tests.
+
 ghost use Rattle.std.specs.Prelude.{IfOk};
 ghost use Rattle.ipdl_base.specs.Sound.{IsSound};
 ghost use Rattle.handler_script.specs.Valid.{IsValid};
@@ -7,7 +9,7 @@ use ipdl_base::{Schema, short_name};
 use std::alloc::Global;
 use std::test::Fail;
 
-/// The number of the protocol with this short name.
+/// Returns the number of the protocol with this short name.
 fn number_of(schema: &Schema, name: &str) -> Result<u32, Fail> {
     let mut number = 0u32;
     for protocol in schema.protocols.as_slice() {
@@ -19,7 +21,7 @@ fn number_of(schema: &Schema, name: &str) -> Result<u32, Fail> {
     Err("no such protocol".into())
 }
 
-/// The script of a text, whose top is the protocol of a file.
+/// Returns the script of a text. Its top is the protocol of a file.
 pub fn script_of(alloc: Global, schema: &Schema, file: &str, text: &str) -> Result<Script, Fail>
     requires sound { IsSound schema.now }
     ensures { IfOk result (IsValid schema.now) }

@@ -1,4 +1,5 @@
-//! The lines that a half lends while it goes by itself.
+//! The lines that a half lends while it runs on its own.
+
 ghost use Rattle.handler_script.specs.Valid.{IsValid};
 ghost use Rattle.ipdl_base.specs.Sound.{IsSound};
 ghost use Rattle.world_core.specs.Relaying.{IsApart};
@@ -12,7 +13,7 @@ use std::alloc::Global;
 use std::test::Fail;
 use world_core::{Half, Halves, RunAnswer, StepAnswer, World, take_turns};
 
-/// The parent tells, calls and tells again.
+/// The parent sends a message, calls, and sends another message.
 const SCRIPT: &str = "parent main
 send top PW.Tell(5)
 send top PW.CallC()
@@ -23,8 +24,8 @@ return (20)
 end
 ";
 
-/// What the parent lends: nothing before its first step, and then more after each of its two steps, and the
-/// same after a try at a third, which it does not do before its call is answered.
+/// What the parent lends: nothing before its first step, more after each of its two steps, and the same
+/// after it tries a third, which it does not make before its call is answered.
 const STEPS: &str = "Did
 parent send 1 to 2147483647 PW.Tell(5)
 Did
@@ -35,7 +36,7 @@ parent send 1 to 2147483647 PW.Tell(5)
 parent call 2/2 to 2147483647 PW.CallC()
 ";
 
-/// What the parent and what the child lends where both took turns to the end.
+/// What the parent and the child lend after both took turns to the end.
 const TURNS: &str = "parent send 1 to 2147483647 PW.Tell(5)
 parent call 2/2 to 2147483647 PW.CallC()
 parent deliver reply 2
@@ -54,7 +55,7 @@ child take 3 at 2147483647 PW.Tell(6)
 child return 3
 ";
 
-/// The text of lines, unless memory runs out.
+/// Returns the text of lines, unless memory runs out.
 fn text_of(alloc: Global, schema: &Schema, lines: &History) -> Option<String>
     requires { IsSound schema.now }
 {
@@ -63,7 +64,7 @@ fn text_of(alloc: Global, schema: &Schema, lines: &History) -> Option<String>
     String::from_str(alloc, text).ok()
 }
 
-/// A step of a half that goes by itself.
+/// Makes a step of a half that runs on its own.
 fn step(half: &mut Half<'_>) -> StepAnswer
     requires { IsApart half.old }
     ensures { IsApart half.new }
@@ -71,7 +72,8 @@ fn step(half: &mut Half<'_>) -> StepAnswer
     half.go_on()
 }
 
-/// What a half lends before its first step, and after each of three tries to step, with the answer of each.
+/// Returns what a half lends before its first step, and after each of three tries to step, with the
+/// answer of each.
 fn lent_in_steps(alloc: Global, schema: &Schema, half: &mut Half<'_>) -> Result<String, Fail>
     requires apart { IsApart half.old }
     requires sound { IsSound schema.now }
@@ -85,7 +87,7 @@ fn lent_in_steps(alloc: Global, schema: &Schema, half: &mut Half<'_>) -> Result<
     Ok(shown)
 }
 
-/// What the parent of a run lends before and after each of its first steps.
+/// Returns what the parent of a run lends before its first step and after each of its first steps.
 fn lent_by_parent(alloc: Global, schema: &Schema, script: &Script) -> Result<String, Fail>
     requires sound { IsSound schema.now }
     requires valid { IsValid schema.now script.now }
@@ -98,7 +100,7 @@ fn lent_by_parent(alloc: Global, schema: &Schema, script: &Script) -> Result<Str
     shown
 }
 
-/// Whether these are the lines of the parent and of the child after their turns.
+/// Returns whether these are the lines of the parent and of the child after their turns.
 fn are_of_turns(alloc: Global, schema: &Schema, parent: &History, child: &History) -> bool
     requires { IsSound schema.now }
 {
@@ -109,7 +111,8 @@ fn are_of_turns(alloc: Global, schema: &Schema, parent: &History, child: &Histor
         && child_text.is_some_and(|text| text.as_str() == child_lines)
 }
 
-/// Whether both halves of a run take turns to the end, lend their lines then, and give the same away.
+/// Returns whether both halves of a run take turns to the end, lend their lines then, and give away the
+/// same lines.
 fn lent_by_both(alloc: Global, schema: &Schema, script: &Script) -> Result<bool, Fail>
     requires sound { IsSound schema.now }
     requires valid { IsValid schema.now script.now }
@@ -126,7 +129,8 @@ fn lent_by_both(alloc: Global, schema: &Schema, script: &Script) -> Result<bool,
     Ok(ended == RunAnswer::Finished && lent && given)
 }
 
-/// Whether the halves of the script lend what they should, the parent in steps and both after their turns.
+/// Returns whether the halves of the script lend what they should, the parent in steps and both after
+/// their turns.
 fn lends(alloc: Global) -> Result<(bool, bool), Fail> {
     let schema = schema_of(alloc, "PW.ipdl")?;
     let script = script_of(alloc, &schema, "PW.ipdl", SCRIPT)?;

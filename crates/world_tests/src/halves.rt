@@ -1,6 +1,7 @@
-//! Runs whose halves go on apart from one another.
+//! Runs whose halves run separately.
+
 ghost use Rattle.std.specs.Prelude.{◌≡◌, List};
-ghost use Rattle.channel_model.specs.Numbers.{other};
+ghost use Rattle.ipdl_base.specs.Sides.{other};
 ghost use Rattle.handler_script.specs.Valid.{IsValid};
 ghost use Rattle.ipdl_base.specs.declared.kinds.Side.{Side as EndSide};
 ghost use Rattle.ipdl_base.specs.declared.kinds.Side.TheVariants as sides;
@@ -8,7 +9,7 @@ ghost use Rattle.ipdl_base.specs.declared.line.Line.{Line};
 ghost use Rattle.ipdl_base.specs.Sound.{IsSound};
 ghost use Rattle.script_steps.specs.Choices.{Setting};
 ghost use Rattle.world_core.specs.HalfView.{HalfView};
-ghost use Rattle.world_core.specs.Halves.{FitsBehind, IsEmptied, IsHome, IsSplit};
+ghost use Rattle.world_core.specs.Halves.{FitsAfter, IsEmptied, IsHome, IsSplit};
 
 use super::apart_rows::{APART, HALVES};
 use super::courses::{Printout, course_of, opened, printed_of};
@@ -22,10 +23,10 @@ use ipdl_base::{Schema, Side};
 use std::alloc::Global;
 use std::test::Fail;
 use worked_runs::{RUNS, Row, row_named};
-use world_core::{Half, Link, MeetAnswer, RunAnswer, StepAnswer, World, halves_fit_behind_more};
+use world_core::{Half, Link, MeetAnswer, RunAnswer, StepAnswer, World, halves_fit_after_more};
 
-/// What is seen of a run by halves: how it ended, if it did; of either side, whether its end is open,
-/// and how many packets wait for it; and how many lines the link has, and its history.
+/// What is seen of a run by halves: how it ended, if it did; for each side, whether its end is open,
+/// and how many packets wait for it; and how many lines the link and its history have.
 #[derive(Clone, Copy)]
 struct Sight {
     ended: Option<RunAnswer>,
@@ -37,7 +38,7 @@ struct Sight {
     history: usize,
 }
 
-/// What is seen of halves and their link, where the run ended so.
+/// Returns what is seen of halves and their link.
 fn sight_of(ended: Option<RunAnswer>, parent: &Half<'_>, child: &Half<'_>, link: &Link) -> Sight {
     Sight {
         ended,
@@ -50,16 +51,7 @@ fn sight_of(ended: Option<RunAnswer>, parent: &Half<'_>, child: &Half<'_>, link:
     }
 }
 
-/// The same half, taken apart and put together.
-fn put_together<'s>(schema: &'s Schema, script: &'s Script, half: Half<'s>) -> Half<'s>
-    requires schema { half.end.schema ≡ schema.now }
-    requires script { half.script ≡ script.now }
-    ensures { result ≡ half.entry }
-{
-    Half::of_parts(schema, script, half.into_parts())
-}
-
-/// How a run ends where an own step of a side was answered so, if it does.
+/// Returns how a run ends by the answer of a side's own step, if it ends.
 fn end_of_steps(side: Side, answer: StepAnswer) -> Option<RunAnswer> {
     match answer {
         StepAnswer::Did | StepAnswer::Nothing => None,
@@ -68,7 +60,7 @@ fn end_of_steps(side: Side, answer: StepAnswer) -> Option<RunAnswer> {
     }
 }
 
-/// How a run ends where a meeting of a side was answered so, if it does.
+/// Returns how a run ends by the answer of a side's meeting, if it ends.
 fn end_of_meeting(side: Side, answer: MeetAnswer) -> Option<RunAnswer> {
     match answer {
         MeetAnswer::Moved(_) => None,
@@ -77,11 +69,11 @@ fn end_of_meeting(side: Side, answer: MeetAnswer) -> Option<RunAnswer> {
     }
 }
 
-/// Own steps of the half of a side, until it rests; how the run ends by that, if it does.
+/// Makes steps of a half until it rests. Returns how the run ends by that, if it ends.
 fn go_on(half: &mut Half<'_>, side: Side) -> Option<RunAnswer>
     ghost at: { Setting × EndSide × List Line }
-    requires { FitsBehind at.0 at.1 at.2 half.old }
-    ensures { FitsBehind at.0 at.1 at.2 half.new }
+    requires { FitsAfter at.0 at.1 at.2 half.old }
+    ensures { FitsAfter at.0 at.1 at.2 half.new }
 {
     for _ in 0..10_000 {
         let answer = half.own();
@@ -92,59 +84,59 @@ fn go_on(half: &mut Half<'_>, side: Side) -> Option<RunAnswer>
     None
 }
 
-/// A half hands in to the link. The other half fits behind the link as before.
+/// Lets a half hand in to the link. The other half still fits after the link.
 fn hand_in(half: &mut Half<'_>, link: &mut Link)
     ghost at: { Setting × EndSide }
-    requires fits { FitsBehind at.0 at.1 link.old.lines half.old }
+    requires fits { FitsAfter at.0 at.1 link.old.lines half.old }
     requires home { IsHome at.0 link.old }
     ensures home { IsHome at.0 link.new }
-    ensures fits { FitsBehind at.0 at.1 link.new.lines half.new }
-    ensures others { (rest : HalfView) → FitsBehind at.0 (other at.1) link.old.lines rest → FitsBehind at.0 (other at.1) link.new.lines rest }
+    ensures fits { FitsAfter at.0 at.1 link.new.lines half.new }
+    ensures others { (rest : HalfView) → FitsAfter at.0 (other at.1) link.old.lines rest → FitsAfter at.0 (other at.1) link.new.lines rest }
 {
-    halves_fit_behind_more();
+    halves_fit_after_more();
     half.hand_in(link);
 }
 
-/// The half of a side meets the link; how the run ends by that, if it does. The other half fits behind
-/// the link as before.
+/// Lets the half of a side meet the link. Returns how the run ends by that, if it ends. The other half
+/// still fits after the link.
 fn meet(half: &mut Half<'_>, link: &mut Link, side: Side) -> Option<RunAnswer>
     ghost at: { Setting × EndSide }
-    requires fits { FitsBehind at.0 at.1 link.old.lines half.old }
+    requires fits { FitsAfter at.0 at.1 link.old.lines half.old }
     requires home { IsHome at.0 link.old }
     ensures home { IsHome at.0 link.new }
-    ensures fits { FitsBehind at.0 at.1 link.new.lines half.new }
+    ensures fits { FitsAfter at.0 at.1 link.new.lines half.new }
     ensures emptied { IsEmptied half.new }
-    ensures others { (rest : HalfView) → FitsBehind at.0 (other at.1) link.old.lines rest → FitsBehind at.0 (other at.1) link.new.lines rest }
+    ensures others { (rest : HalfView) → FitsAfter at.0 (other at.1) link.old.lines rest → FitsAfter at.0 (other at.1) link.new.lines rest }
 {
-    halves_fit_behind_more();
+    halves_fit_after_more();
     end_of_meeting(side, half.meet(link))
 }
 
-/// Whether a half has an own step, or a packet that waits for its open end.
+/// Returns whether a half has a step of its own left, or a packet waits for its open end.
 fn is_busy(half: &Half<'_>, link: &Link, side: Side) -> bool {
     !half.rests() || half.is_open() && link.left(side) > 0
 }
 
-/// Both halves do own steps apart from the link; how the run ends by that, if it does.
+/// Makes steps of both halves, without the link. Returns how the run ends by that, if it ends.
 fn both_go_on(parent: &mut Half<'_>, child: &mut Half<'_>) -> Option<RunAnswer>
     ghost at: { Setting × List Line }
-    requires parent { FitsBehind at.0 sides.Parent at.1 parent.old }
-    requires child { FitsBehind at.0 sides.Child at.1 child.old }
-    ensures parent { FitsBehind at.0 sides.Parent at.1 parent.new }
-    ensures child { FitsBehind at.0 sides.Child at.1 child.new }
+    requires parent { FitsAfter at.0 sides.Parent at.1 parent.old }
+    requires child { FitsAfter at.0 sides.Child at.1 child.old }
+    ensures parent { FitsAfter at.0 sides.Parent at.1 parent.new }
+    ensures child { FitsAfter at.0 sides.Child at.1 child.new }
 {
     let parent_ended = go_on(parent, Side::Parent);
     let child_ended = go_on(child, Side::Child);
     parent_ended.or(child_ended)
 }
 
-/// The parent hands in, and then the child and the parent meet the link; how the run ends by that, if
-/// it does.
+/// Lets the parent hand in, and then the child and the parent meet the link. Returns how the run ends
+/// by that, if it ends.
 fn both_meet(parent: &mut Half<'_>, child: &mut Half<'_>, link: &mut Link) -> Option<RunAnswer>
     ghost setting: { Setting }
     requires home { IsHome setting link.old }
-    requires parent { FitsBehind setting sides.Parent link.old.lines parent.old }
-    requires child { FitsBehind setting sides.Child link.old.lines child.old }
+    requires parent { FitsAfter setting sides.Parent link.old.lines parent.old }
+    requires child { FitsAfter setting sides.Child link.old.lines child.old }
     ensures { IsSplit setting parent.new child.new link.new }
 {
     hand_in(parent, link);
@@ -153,7 +145,7 @@ fn both_meet(parent: &mut Half<'_>, child: &mut Half<'_>, link: &mut Link) -> Op
     parent_ended.or(child_ended)
 }
 
-/// Both halves go on and meet the link; how the run ends by that, if it does.
+/// Lets both halves make their steps and meet the link. Returns how the run ends by that, if it ends.
 fn round(parent: &mut Half<'_>, child: &mut Half<'_>, link: &mut Link) -> Option<RunAnswer>
     ghost at: { Setting × List Line }
     requires seen { link.old.lines ≡ at.1 }
@@ -167,7 +159,7 @@ fn round(parent: &mut Half<'_>, child: &mut Half<'_>, link: &mut Link) -> Option
     apart.or(met).or(rest)
 }
 
-/// Two rounds, or fewer where the run ends in one; how it ends, if it does.
+/// Makes two rounds, or one if the run ends in it. Returns how the run ends, if it ends.
 fn two_rounds(parent: &mut Half<'_>, child: &mut Half<'_>, link: &mut Link) -> Option<RunAnswer>
     ghost setting: { Setting }
     requires { IsSplit setting parent.old child.old link.old }
@@ -180,38 +172,30 @@ fn two_rounds(parent: &mut Half<'_>, child: &mut Half<'_>, link: &mut Link) -> O
     round(parent, child, link)
 }
 
-/// A world is split, its halves go on for two rounds, and it is joined again; what is seen before.
-fn go_apart<'s>(schema: &'s Schema, script: &'s Script, world: World<'s>) -> (World<'s>, Sight)
-    requires schema { world.setting.schema ≡ schema.now }
-    requires script { world.setting.script ≡ script.now }
-    ensures { result.0.setting ≡ world.entry.setting }
-{
-    let (parent, child, mut link) = world.split();
-    let mut parent = put_together(schema, script, parent);
-    let mut child = put_together(schema, script, child);
+/// Splits a world, lets its halves make two rounds, and joins it again. Returns it with what is seen
+/// before the join.
+fn go_apart(world: World<'_>) -> (World<'_>, Sight) {
+    let (mut parent, mut child, mut link) = world.split();
     let ended = two_rounds(&mut parent, &mut child, &mut link);
     let seen = sight_of(ended, &parent, &child, &link);
     (World::join(parent, child, link), seen)
 }
 
-/// The run of a world by its halves, and what is seen at its end.
-fn run_apart<'s>(schema: &'s Schema, script: &'s Script, world: World<'s>) -> (World<'s>, Sight)
-    requires schema { world.setting.schema ≡ schema.now }
-    requires script { world.setting.script ≡ script.now }
-{
-    let (mut world, mut seen) = go_apart(schema, script, world);
+/// Runs a world by its halves. Returns it with what is seen at the end.
+fn run_apart(world: World<'_>) -> (World<'_>, Sight) {
+    let (mut world, mut seen) = go_apart(world);
     for _ in 0..1_000 {
         if seen.ended.is_some() {
             break;
         }
-        let (next, sight) = go_apart(schema, script, world);
+        let (next, sight) = go_apart(world);
         world = next;
         seen = sight;
     }
     (world, seen)
 }
 
-/// What a run by halves prints, and what is seen at its end.
+/// Returns what a run by halves prints, and what is seen at its end.
 fn printed_apart(
     alloc: Global,
     schema: &Schema,
@@ -223,27 +207,27 @@ fn printed_apart(
 {
     let course = course_of(alloc, row.course)?;
     let world = opened(alloc, schema, script, &course)?;
-    let (world, seen) = run_apart(schema, script, world);
+    let (world, seen) = run_apart(world);
     let ending = seen.ended.unwrap_or(RunAnswer::NoMemory);
     let found = printed_of(alloc, schema, &world, ending);
     drop(world);
     Ok((found?, seen))
 }
 
-/// The word for an end that is open, or not.
+/// Returns the word for an end that is open, or for one that is not.
 fn openness(is_open: bool) -> &'static str {
     if is_open { "open" } else { "shut" }
 }
 
-/// What is seen of halves, as a row of `HALVES` has it.
+/// Returns what is seen of halves, in the form of a row of `HALVES`.
 fn seen_text(alloc: Global, seen: Sight) -> Result<String, Fail> {
     let parent = openness(seen.parent_open);
     let child = openness(seen.child_open);
     Ok(format!(in alloc; "{parent} {} {child} {}", seen.parent_left, seen.child_left)?)
 }
 
-/// What is wrong with a run by halves: it prints something else than its row has, a law does not hold,
-/// the link has another count of lines, or the halves stand otherwise than wanted.
+/// Returns what is wrong with a run by halves: it does not print what its row has, a law does not hold,
+/// the link has another number of lines, or the halves are not in the expected state.
 fn fault_apart(
     alloc: Global,
     schema: &Schema,
@@ -266,14 +250,14 @@ fn fault_apart(
     Ok(fault_of(&run, row.printed))
 }
 
-/// The row of any table with this name.
+/// Returns the row with this name, from any table.
 fn row_of_any(name: &str) -> Option<Row<'static>> {
     row_named(APART, name)
         .or(row_named(RUNS, name))
         .or(row_named(DEEP, name))
 }
 
-/// What is wrong with the run by halves of a row under the schema of its protocol.
+/// Returns what is wrong with the run by halves of a row, with the schema of its protocol.
 fn fault_under(
     alloc: Global,
     schema: &Schema,
@@ -286,7 +270,7 @@ fn fault_under(
     fault_apart(alloc, schema, &script, row, wanted)
 }
 
-/// Notes a run by halves with which something is wrong.
+/// Notes a run by halves if something is wrong with it.
 fn check(alloc: Global, line: &str, wrong: &mut String) -> Result<(), Fail> {
     let (name, wanted) = line.split_once(" ").ok_or("a name alone")?;
     let row = row_of_any(name).ok_or("no such row")?;
@@ -298,7 +282,7 @@ fn check(alloc: Global, line: &str, wrong: &mut String) -> Result<(), Fail> {
     Ok(())
 }
 
-/// The runs by halves with which something is wrong, and how many there are.
+/// Returns the runs by halves that are wrong, and how many runs there are.
 fn checked(alloc: Global, table: &str) -> Result<String, Fail> {
     let mut shown = String::new(alloc);
     let mut count = 0u32;

@@ -1,3 +1,5 @@
+//! Tests of all laws on a history.
+
 ghost use Rattle.ipdl_base.specs.Sound.{IsSound};
 
 use history::History;
@@ -17,7 +19,7 @@ const LAWS: &[Law] = &[
 /// How many laws there are.
 pub const ALL_LAWS: u32 = 5;
 
-/// How many laws hold of a history.
+/// Returns how many laws hold of a history.
 pub fn lawful(alloc: Global, schema: &Schema, history: &History) -> Result<u32, AllocError>
     requires { IsSound schema.now }
 {

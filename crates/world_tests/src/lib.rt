@@ -1,8 +1,6 @@
-//! Tests of runs (docs/scripts.md): worked runs and orders of own steps, each with the word, the limit
-//! and the death with which it is run, and with what it prints, by the world alone and by a driver;
-//! halves that go on apart; deaths under nested calls; limits that cut a run; and feeds, with a frame
-//! for each fault (docs/feed.md). Of each history every law is tested, and of each feed the law of one
-//! end. The worked runs are lent to other tests.
+//! Tests of runs (docs/scripts.md): worked runs, by the world alone and by a driver; halves that run
+//! separately; deaths under nested calls; limits that cut a run; and feeds, with a frame for each fault
+//! (docs/feed.md). Every law is tested on each history, and the law of one end on each feed.
 #![tactic(auto)]
 
 #[cfg(test)]

@@ -1,3 +1,5 @@
+//! Runs that a limit cuts.
+
 ghost use Rattle.ipdl_base.specs.Sound.{IsSound};
 ghost use Rattle.handler_script.specs.Valid.{IsValid};
 
@@ -12,7 +14,7 @@ use std::alloc::Global;
 use std::test::Fail;
 use worked_runs::{RUNS, row_named};
 
-/// How a run by a word goes within a limit.
+/// Returns the course of a run by a word, with a limit.
 fn course(alloc: Global, letters: &str, limit: u32) -> Result<Course, Fail> {
     Ok(Course {
         word: word_of(alloc, letters)?,
@@ -21,8 +23,8 @@ fn course(alloc: Global, letters: &str, limit: u32) -> Result<Course, Fail> {
     })
 }
 
-/// Whether a run ended as its lines have it, within this limit: it is finished with all lines of the
-/// whole run, or the side that it names has as many events as it may have.
+/// Returns whether a run with this limit ended as its lines show: it is finished with all lines of the
+/// whole run, or the side that its ending names has reached the limit.
 fn ends_right(lines: &str, ending: &str, whole: &str, limit: u32) -> bool {
     match ending {
         "finished\n" => lines == whole,
@@ -31,7 +33,8 @@ fn ends_right(lines: &str, ending: &str, whole: &str, limit: u32) -> bool {
     }
 }
 
-/// Whether the run by a word within a limit is a front of the whole one, as far as the limit goes.
+/// Returns whether the run by a word with a limit is a prefix of the whole run, as far as the limit
+/// allows.
 fn is_front(
     alloc: Global,
     schema: &Schema,
@@ -54,7 +57,7 @@ fn is_front(
     )
 }
 
-/// How many of the limits from 1 to 12 cut the run by a word as they must.
+/// Returns how many of the limits from 1 to 12 cut the run by a word correctly.
 fn right_limits(alloc: Global, schema: &Schema, script: &Script, letters: &str) -> Result<u32, Fail>
     requires sound { IsSound schema.now }
     requires valid { IsValid schema.now script.now }
@@ -73,7 +76,7 @@ fn right_limits(alloc: Global, schema: &Schema, script: &Script, letters: &str) 
     Ok(right)
 }
 
-/// The letter of a digit.
+/// Returns the letter of a digit.
 fn letter_of(digit: u32) -> char {
     match digit {
         0 => 'P',
@@ -83,7 +86,7 @@ fn letter_of(digit: u32) -> char {
     }
 }
 
-/// The word of so many letters with this number.
+/// Returns the word of this length with this number.
 fn word_numbered(alloc: Global, length: u32, number: u32) -> Result<String, Fail> {
     let mut word = String::new(alloc);
     let mut rest = number;
@@ -94,7 +97,8 @@ fn word_numbered(alloc: Global, length: u32, number: u32) -> Result<String, Fail
     Ok(word)
 }
 
-/// How many words of so many letters there are, and how many limits cut their runs as they must.
+/// Returns how many limits cut the runs of the first `words` words of this length correctly, over all
+/// these words.
 fn checked(
     alloc: Global,
     schema: &Schema,
@@ -114,7 +118,8 @@ fn checked(
     Ok(right)
 }
 
-/// The same for words of one to four letters, as text.
+/// Returns, for each length from one to four letters, how many words there are and how many limits cut
+/// their runs correctly, as text.
 fn limits_of(alloc: Global, schema: &Schema, script: &Script) -> Result<String, Fail>
     requires sound { IsSound schema.now }
     requires valid { IsValid schema.now script.now }
@@ -127,7 +132,7 @@ fn limits_of(alloc: Global, schema: &Schema, script: &Script) -> Result<String, 
     Ok(shown)
 }
 
-/// The same for the script of two calls at once.
+/// Returns the same for the script of two calls at once.
 fn limits_under(alloc: Global, schema: &Schema) -> Result<String, Fail>
     requires { IsSound schema.now }
 {
@@ -136,7 +141,7 @@ fn limits_under(alloc: Global, schema: &Schema) -> Result<String, Fail>
     limits_of(alloc, schema, &script)
 }
 
-/// The same, by the schema of these calls.
+/// Returns the same with the schema of these calls.
 fn limits(alloc: Global) -> Result<String, Fail> {
     let schema = schema_of(alloc, "PW.ipdl")?;
     limits_under(alloc, &schema)

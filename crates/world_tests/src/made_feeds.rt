@@ -1,4 +1,6 @@
-//! Feeds of made files: honest frames, whole, cut, with a bit turned, left out, and repeated.
+//! Feeds of generated files: honest frames that are whole, cut, with a bit turned, left out, or
+//! repeated.
+
 ghost use Rattle.ipdl_base.specs.Sound.{IsSound};
 ghost use Rattle.handler_script.specs.Valid.{IsValid};
 
@@ -11,14 +13,14 @@ use ipdl_base::{Schema, Side};
 use law_checks::{Law, holds};
 use std::alloc::Global;
 use std::test::Fail;
-use world_core::{Fed, FeedFault, feed};
+use world_core::{FeedFault, FeedResult, feed};
 
-/// How many files are made of each case.
+/// How many files are generated from each case.
 const FILES: u32 = 1_000;
 
-/// Cases: the file of a protocol; then the script of the parent; and after `----` what an honest child may
-/// send, each frame with the line of its delivery and the line that has its values. `====` stands between two
-/// cases.
+/// Cases: the file of a protocol; then the script of the parent; and after `----` what an honest child
+/// may send, each frame with the line of its delivery and the line that has its values. `====`
+/// separates two cases.
 const CASES: &str = "PQ.ipdl
 parent main
 send top PQ.Get()
@@ -78,18 +80,18 @@ end
 4950443208000000ffffff7f0200000003000000fdfffffffdffffff0100000005000000: parent deliver request -3: parent take -3 at 2147483647 PHub.Wait(@1 5)
 4950443208000000ffffff7f0400000004000000fcffffff000000000100000004000000: parent deliver request -4: parent take -4 at 2147483647 PHub.Push(some #4)";
 
-/// What the feeds of all made files have together at least: so many files, of which so many keep the laws of
-/// one end; so many deliveries; so many values of whole frames that are printed as they were sent; so many files
-/// that are as the child sends them; and so many feeds that end without a fault, or with each.
+/// The least counts of the feeds of all generated files together: files; files that keep the law of one
+/// end; deliveries; values of whole frames that are printed as they were sent; files that are as the
+/// child sends them; and feeds that end without a fault, or with each fault.
 ///
-/// There are 1,000 files for each of four cases. Of twenty frames four have a bit turned, in one word of ten,
-/// and one is cut; of twenty places one is left out, one has its frame twice, and one the first frame after
-/// its own. Over all places and bits, about 2,700 first frames are whole and in their place, and 590 files are as
-/// the child sends them: so the first five counts are far below what is expected. The counts for rules 1 to 4,
-/// 7 to 9, 11 to 13 and 15 and for stray replies are below what is expected if the first frame of each file is
-/// the only one to which something is done; those for rules 5, 6 and 14, for short bytes and for no fault, if
-/// one frame of each file is. A route or a value that is another actor's takes more than one bit, so that fault
-/// has no count.
+/// There are 1,000 files for each of four cases. Of twenty frames, four have a bit turned, in one word
+/// of ten, and one is cut. Of twenty places, one is left out, one has its frame twice, and one has the
+/// first frame after its own. Over all places and bits, about 2,700 first frames are whole and in their
+/// place, and 590 files are as the child sends them, so the first five counts are far below what is
+/// expected. The counts for rules 1 to 4, 7 to 9, 11 to 13 and 15 and for stray replies are below what
+/// is expected if only the first frame of each file were changed; those for rules 5, 6 and 14, for
+/// short bytes and for no fault, if one frame of each file were. A route or a value that is another
+/// actor's takes more than one bit, so that fault has no count.
 const FLOORS: &str = "4000 file
 4000 lawful
 4000 delivery
@@ -121,8 +123,8 @@ struct FrameRow<'a> {
     saying: &'a str,
 }
 
-/// A file that is made of frames: its bytes; the frames that are whole in it, in order, up to the first that is
-/// not; and whether it is as the child sends it.
+/// A file that is generated from frames: its bytes; its whole frames, in order, up to the first that is
+/// not whole; and whether it is as the child sends it.
 #[derive(Drop)]
 struct MadeFile<'a> {
     bytes: Vec<u8>,
@@ -131,14 +133,14 @@ struct MadeFile<'a> {
     honest: bool,
 }
 
-/// Numbers that seem to come by chance.
+/// Pseudorandom numbers.
 #[derive(Clone, Copy)]
 struct Dice {
     state: u32,
 }
 
 impl Dice {
-    /// A number below this one.
+    /// Returns a number below this one.
     fn roll(&mut self, below: u32) -> u32 {
         self.state = self
             .state
@@ -147,7 +149,7 @@ impl Dice {
         (self.state >> 9).checked_rem(below).unwrap_or(0)
     }
 
-    /// A place in a frame, more often the first byte of a word of four bytes.
+    /// Returns a place in a frame, more often the first byte of a word of four bytes.
     fn place(&mut self) -> usize {
         let word = self.roll(10).wrapping_mul(4);
         let byte = self.roll(2).wrapping_mul(self.roll(4));
@@ -155,7 +157,7 @@ impl Dice {
     }
 }
 
-/// The frame that a line of a case spells.
+/// Returns the frame that a line of a case spells.
 fn frame_row(line: &str) -> Option<FrameRow<'_>> {
     let (digits, rest) = line.split_once(": ")?;
     let (delivery, saying) = rest.split_once(": ")?;
@@ -166,7 +168,8 @@ fn frame_row(line: &str) -> Option<FrameRow<'_>> {
     })
 }
 
-/// Appends the bytes of a frame up to a place, where it is cut, or all of them with a bit of that place turned.
+/// Appends the bytes of a frame up to a place where it is cut, or all of them with a bit of the byte at
+/// that place turned.
 fn push_changed(
     frame: &[u8],
     place: usize,
@@ -207,7 +210,8 @@ fn push_frame<'a>(
     push_changed(frame.as_slice(), place, turned, &mut file.bytes)
 }
 
-/// A file of a case: of each of its frames one, none, or two, and sometimes the first one between.
+/// Returns a file of a case: each of its frames once, twice or not at all, and sometimes the first one
+/// after it.
 fn file_of<'a>(alloc: Global, dice: &mut Dice, frames: &'a str) -> Result<MadeFile<'a>, Fail> {
     let mut file = MadeFile {
         bytes: Vec::new(alloc),
@@ -237,7 +241,7 @@ fn file_of<'a>(alloc: Global, dice: &mut Dice, frames: &'a str) -> Result<MadeFi
     Ok(file)
 }
 
-/// Whether this is a line of a text.
+/// Returns whether a text has this line.
 fn has_line(text: &str, wanted: &str) -> bool {
     for line in text.lines() {
         if line == wanted {
@@ -247,8 +251,8 @@ fn has_line(text: &str, wanted: &str) -> bool {
     false
 }
 
-/// Notes each delivery of what a feed prints. Notes a value for each of the frames that were whole, where the
-/// text has its delivery in its turn and the line of its values, and a difference where it has not.
+/// Notes each delivery in what a feed prints. For each frame that was whole, notes a value if the text
+/// has its delivery in order and the line of its values, or else a difference.
 fn note_deliveries(text: &str, whole: &[FrameRow<'_>], log: &mut String) -> Result<(), Fail> {
     let mut next = 0usize;
     for line in text.lines() {
@@ -276,7 +280,7 @@ fn note_fault(fault: Option<FeedFault>, log: &mut String) -> Result<(), Fail> {
     Ok(())
 }
 
-/// How many lines of a text are this one.
+/// Returns how many lines of a text are equal to this one.
 fn count_of(text: &str, wanted: &str) -> u32 {
     let mut count = 0u32;
     for line in text.lines() {
@@ -287,8 +291,13 @@ fn count_of(text: &str, wanted: &str) -> u32 {
     count
 }
 
-/// What there is to note of the feed of a file.
-fn notes_of(alloc: Global, schema: &Schema, fed: &Fed, file: &MadeFile<'_>) -> Result<String, Fail>
+/// Returns the notes on the feed of a file.
+fn notes_of(
+    alloc: Global,
+    schema: &Schema,
+    fed: &FeedResult,
+    file: &MadeFile<'_>,
+) -> Result<String, Fail>
     requires { IsSound schema.now }
 {
     let mut notes = String::from_str(alloc, "file\n")?;
@@ -331,7 +340,7 @@ fn note_feeds(
     Ok(())
 }
 
-/// Notes the feeds of a case that a text spells, by numbers that begin with this one.
+/// Notes the feeds of a case that a text spells. `number` starts the pseudorandom numbers.
 fn note_case(alloc: Global, text: &str, number: u32, log: &mut String) -> Result<(), Fail> {
     let (file, rest) = text.split_once("\n").ok_or("a case without its script")?;
     let (script, frames) = rest
@@ -343,7 +352,7 @@ fn note_case(alloc: Global, text: &str, number: u32, log: &mut String) -> Result
     note_feeds(alloc, &schema, &script, frames, dice, log)
 }
 
-/// What is noted of all feeds.
+/// Returns the notes on all feeds.
 fn noted(alloc: Global) -> Result<String, Fail> {
     let mut log = String::new(alloc);
     let mut number = 0u32;
@@ -354,7 +363,7 @@ fn noted(alloc: Global) -> Result<String, Fail> {
     Ok(log)
 }
 
-/// The counts that are below their floor, and how many differences there are.
+/// Returns the counts that are below their floor, and how many differences there are.
 fn missing(alloc: Global) -> Result<String, Fail> {
     let log = noted(alloc)?;
     let mut shown = String::new(alloc);

@@ -1,4 +1,6 @@
-/// Runs for the order of own steps, in the form of `worked_runs::RUNS`, each as the rules have it.
+//! Rows of runs for the order of own steps.
+
+/// Runs for the order of own steps, in the form of `worked_runs::RUNS`, each worked out from the rules.
 pub const ORDERS: &str = "the-last-block-serves-the-rest PW.ipdl PPP 10000 -
 parent main
 send top PW.Tell(1)

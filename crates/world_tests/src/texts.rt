@@ -1,4 +1,6 @@
-/// How many events of a side stand in a text: its lines, but for those of effects.
+//! The parts of what a run prints.
+
+/// Returns how many events of a side are in a text: its lines, except those of effects.
 pub fn events_of(side: &str, text: &str) -> u32 {
     let mut count = 0u32;
     for line in text.lines() {
@@ -9,7 +11,7 @@ pub fn events_of(side: &str, text: &str) -> u32 {
     count
 }
 
-/// The lines of what a run prints, and the last one, which says how it ended.
+/// Splits what a run prints into its lines and the last one, which reports how it ended.
 pub fn lines_and_ending(printed: &str) -> Option<(&str, &str)> {
     let lines = printed
         .strip_suffix("finished\n")

@@ -1,3 +1,5 @@
+//! Worked runs, and what each prints.
+
 ghost use Rattle.ipdl_base.specs.Sound.{IsSound};
 ghost use Rattle.handler_script.specs.Valid.{IsValid};
 
@@ -16,8 +18,8 @@ use std::alloc::Global;
 use std::test::Fail;
 use worked_runs::{RUNS, Row, row_of};
 
-/// What is wrong with the lines that a run is to have: a law that does not hold, or another text than
-/// these.
+/// Returns what is wrong with the expected lines of a run: a law does not hold, or their history has
+/// another text.
 fn fault(alloc: Global, schema: &Schema, lines: &str) -> Result<&'static str, Fail>
     requires { IsSound schema.now }
 {
@@ -32,7 +34,7 @@ fn fault(alloc: Global, schema: &Schema, lines: &str) -> Result<&'static str, Fa
     Ok("")
 }
 
-/// What is wrong with what a run prints: something else is wanted, or a law does not hold.
+/// Returns what is wrong with what a run prints: it is not what is expected, or a law does not hold.
 pub fn fault_of(run: &Printout, wanted: &str) -> &'static str {
     if run.text.as_str() != wanted {
         "another run"
@@ -43,7 +45,7 @@ pub fn fault_of(run: &Printout, wanted: &str) -> &'static str {
     }
 }
 
-/// What is wrong with the run of a script, by its world alone, or by a driver.
+/// Returns what is wrong with the run of a script, by its world alone or by a driver.
 fn fault_of_run(
     alloc: Global,
     schema: &Schema,
@@ -63,7 +65,7 @@ fn fault_of_run(
     Ok(fault_of(&run, row.printed))
 }
 
-/// What is wrong with a row under the schema of its protocol: its lines, or the run.
+/// Returns what is wrong with a row, with the schema of its protocol: its lines, or the run.
 fn fault_under(alloc: Global, schema: &Schema, row: Row<'_>) -> Result<&'static str, Fail>
     requires { IsSound schema.now }
 {
@@ -76,7 +78,7 @@ fn fault_under(alloc: Global, schema: &Schema, row: Row<'_>) -> Result<&'static 
     fault_of_run(alloc, schema, &script, row)
 }
 
-/// Notes a row with which something is wrong.
+/// Notes a row if something is wrong with it.
 fn check(alloc: Global, text: &str, wrong: &mut String) -> Result<(), Fail> {
     let row = row_of(text).ok_or("a row without one of its parts")?;
     let schema = schema_of(alloc, row.file)?;
@@ -87,7 +89,7 @@ fn check(alloc: Global, text: &str, wrong: &mut String) -> Result<(), Fail> {
     Ok(())
 }
 
-/// The rows of a table with which something is wrong, and how many rows there are.
+/// Returns the rows of a table that are wrong, and how many rows there are.
 fn checked(alloc: Global, table: &str) -> Result<String, Fail> {
     let mut shown = String::new(alloc);
     let mut count = 0u32;

@@ -1,4 +1,4 @@
--- How a list grows behind what it has.
+-- How a list grows by appending.
 use Rattle.std.proofs.Common.{◌≡◌, ◌∙◌, ℕ, suc, ◌+◌, ◌<◌, List, [], ◌∷◌, ◌++◌, Option, append_assoc, append-nil, length, map, take, get_or, sym, ap, subst, arith}
 use Rattle.std.specs.List.{flat_map, enumerate_from}
 use Rattle.std.proofs.lemmas.List.{take_more, length-take, map-append, flat_map_more}
@@ -12,11 +12,11 @@ appends_none view a = sym (append-nil (map view a))
 pub appends_one : {X Y : Type 0} (view : X → Y) (x : X) (y : Y) (a b : List X) → b ≡ a ++ x ∷ [] → view x ≡ y → Appends view (y ∷ []) a b
 appends_one view x y a b e same = ap (map view) e ∙ map-append view a (x ∷ []) ∙ ap (λ z. map view a ++ z ∷ []) same
 
--- one gain behind another
+-- one gain after another
 pub appends_then : {X Y : Type 0} (view : X → Y) (ys zs : List Y) (a b c : List X) → Appends view ys a b → Appends view zs b c → Appends view (ys ++ zs) a c
 appends_then view ys zs a b c one two = two ∙ ap (λ l. l ++ zs) one ∙ append_assoc (map view a) ys zs
 
--- what an option holds
+-- the value of an option
 pub appends_held : {X Y Z : Type 0} (view : X → Y) (parts : Option Z → List Y) (o p : Option Z) (a b : List X) → o ≡ p → Appends view (parts p) a b → Appends view (parts o) a b
 appends_held {X} {Y} {Z} view parts o p a b e h = let Q : Option Z → Type 0 = λ q. Appends view (parts q) a b in subst Q (sym e) h
 
@@ -26,13 +26,13 @@ appends_turn view parts ws i w a b c lt is one two =
     two ∙ ap (λ l. l ++ parts w) one ∙ flat_map_more parts (map view a) (take i ws) w
     ∙ ap (λ z. map view a ++ flat_map parts (take i ws ++ z ∷ [])) is ∙ ap (λ l. map view a ++ flat_map parts l) (sym (take_more ws i w lt))
 
--- the same, where each element gives one
+-- the same if each element gives one
 pub map-turn : {X Y Z : Type 0} (view : Y → Z) (f : X → Z) (front : List Z) (xs : List X) (i : ℕ) (x : X) (ys zs : List Y) (y : Y) → i < length xs → x ≡ get_or xs i x → zs ≡ ys ++ y ∷ [] → view y ≡ f x → map view ys ≡ front ++ map f (take i xs) → map view zs ≡ front ++ map f (take (i + 1) xs)
 map-turn view f front xs i x ys zs y lt is new same old =
     ap (map view) new ∙ map-append view ys (y ∷ []) ∙ ap (λ l. l ++ view y ∷ []) old ∙ ap (λ z. (front ++ map f (take i xs)) ++ z ∷ []) (same ∙ ap f is)
     ∙ append_assoc front (map f (take i xs)) (f (get_or xs i x) ∷ []) ∙ ap (λ l. front ++ l) (sym (map-append f (take i xs) (get_or xs i x ∷ [])) ∙ ap (map f) (sym (take_more xs i x lt)))
 
--- one element more with its number
+-- one more element with its number
 enumerated_push : {W : Type 0} (n : ℕ) (ws : List W) (w : W) → enumerate_from n (ws ++ w ∷ []) ≡ enumerate_from n ws ++ (n + length ws, w) ∷ []
 enumerated_push n [] w = let here : n ≡ n + 0 = omega arith in ap (λ k. (k, w) ∷ []) here
 enumerated_push n (v ∷ vs) w =

@@ -1,4 +1,4 @@
--- The lists of attributes that a program writes, in order, each with what bears it. A field has none, by the grammar.
+-- The lists of attributes that a program writes, in order, each with its bearer. A field has no list, by the grammar.
 use Rattle.std.specs.Prelude.{List, [], ◌∷◌, ◌++◌, map, Option, Some, None, unwrap_or}
 use Rattle.std.specs.List.{flat_map}
 use Rattle.ipdl_syntax.specs.declared.program.Entry.{Entry}
@@ -19,24 +19,24 @@ pub record AttributesOf : Type 0 where
 abbrev pub borne_by : Bearer → List Attribute → AttributesOf
 borne_by bearer attributes = record { bearer = bearer; attributes = attributes }
 
--- as the code lists them
+-- a list of attributes of the code, as definitions see it
 abbrev pub told : AttributeList → AttributesOf
 told l = borne_by l.bearer l.attributes.now
 
--- of parameters or returns
+-- the lists of parameters or returns
 abbrev pub lists_of_params : List Param → List AttributesOf
 lists_of_params params = map (λ p. borne_by bearer.Parameter p.attributes) params
 
--- of a message, of its parameters, and of its returns
+-- the lists of a message, of its parameters, and of its returns
 abbrev pub lists_of_message : MessageDecl → List AttributesOf
 lists_of_message m = borne_by bearer.Message m.attributes ∷ (lists_of_params m.params ++ lists_of_params (unwrap_or m.returns []))
 
--- of the protocol of a file, where it has one, and of its messages
+-- the lists of the protocol of a file, if it has one, and of its messages
 abbrev pub lists_of_protocol : Option ProtocolDecl → List AttributesOf
 lists_of_protocol None = []
 lists_of_protocol (Some p) = borne_by bearer.Protocol p.attributes ∷ flat_map lists_of_message p.messages
 
--- of a file: of its usings, of its structs, of its unions, and of its protocol
+-- the lists of a file: of its usings, of its structs, of its unions, and of its protocol
 abbrev pub lists_of_unit : FileUnit → List AttributesOf
 lists_of_unit unit =
     map (λ u. borne_by bearer.Using u.attributes) unit.usings
@@ -44,6 +44,6 @@ lists_of_unit unit =
     ++ (map (λ u. borne_by bearer.Union u.attributes) unit.unions
     ++ lists_of_protocol unit.protocol))
 
--- of a program, file by file
+-- the lists of a program, file by file
 abbrev pub attribute_lists : List Entry → List AttributesOf
 attribute_lists program = flat_map (λ e. lists_of_unit e.unit) program

@@ -1,3 +1,5 @@
+//! All lists of attributes that a program writes.
+
 ghost use Rattle.std.specs.Prelude.{◌≡◌, map, IfOk, OnOk};
 ghost use Rattle.written_parts.specs.Appends.{Appends};
 ghost use Rattle.written_parts.specs.Attributes.{told, lists_of_params, lists_of_message, lists_of_protocol, lists_of_unit, attribute_lists};
@@ -5,26 +7,33 @@ ghost use Rattle.written_parts.specs.Attributes.{told, lists_of_params, lists_of
 use ipdl_syntax::{Attribute, Entry, MessageDecl, Param, ProtocolDecl, Unit};
 use std::alloc::{AllocError, Global};
 
-/// What bears attributes.
+/// What attributes belong to.
 #[derive(Clone, Copy)]
 pub enum Bearer {
+    /// A `using` statement.
     Using,
+    /// A struct.
     Struct,
+    /// A union.
     Union,
+    /// A protocol.
     Protocol,
+    /// A message.
     Message,
     /// A parameter or a return.
     Parameter,
 }
 
-/// A list of attributes that a program writes, with what bears it.
+/// A list of attributes that a program writes, with its bearer.
 #[derive(Clone, Copy)]
 pub struct AttributeList<'p> {
+    /// What the attributes belong to.
     pub bearer: Bearer,
+    /// The attributes in text order.
     pub attributes: &'p [Attribute],
 }
 
-/// Adds the lists of parameters or returns.
+/// Adds the lists of attributes of parameters or returns.
 fn add_params<'p>(params: &'p [Param], lists: &mut Vec<AttributeList<'p>>) -> Result<(), AllocError>
     ensures { OnOk result (Appends told (lists_of_params params.now) lists.old.items lists.new.items) }
 {
@@ -37,7 +46,7 @@ fn add_params<'p>(params: &'p [Param], lists: &mut Vec<AttributeList<'p>>) -> Re
     Ok(())
 }
 
-/// Adds the lists of a message.
+/// Adds the lists of attributes of a message.
 fn add_message<'p>(
     message: &'p MessageDecl,
     lists: &mut Vec<AttributeList<'p>>,
@@ -55,7 +64,7 @@ fn add_message<'p>(
     Ok(())
 }
 
-/// Adds the lists of the protocol of a file.
+/// Adds the lists of attributes of the protocol of a file.
 fn add_protocol<'p>(
     protocol: &'p ProtocolDecl,
     lists: &mut Vec<AttributeList<'p>>,
@@ -72,7 +81,7 @@ fn add_protocol<'p>(
     Ok(())
 }
 
-/// Adds the lists of a file.
+/// Adds the lists of attributes of a file.
 fn add_unit<'p>(unit: &'p Unit, lists: &mut Vec<AttributeList<'p>>) -> Result<(), AllocError>
     ensures { OnOk result (Appends told (lists_of_unit unit.now) lists.old.items lists.new.items) }
 {
@@ -100,8 +109,8 @@ fn add_unit<'p>(unit: &'p Unit, lists: &mut Vec<AttributeList<'p>>) -> Result<()
     Ok(())
 }
 
-/// All lists of attributes that a program writes, in order. It takes time in proportion to the
-/// program. The only error is want of memory.
+/// Returns all lists of attributes that a program writes, in order. Takes time in proportion to the
+/// program. Fails only if memory runs out.
 pub fn attribute_lists(
     alloc: Global,
     program: &[Entry],

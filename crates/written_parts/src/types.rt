@@ -1,3 +1,5 @@
+//! All types that a program writes.
+
 ghost use Rattle.std.specs.Prelude.{◌≡◌, ◌≤◌, length, map, IfOk, OnOk};
 ghost use Rattle.std.specs.List.{flat_map};
 ghost use Rattle.written_parts.specs.Appends.{Appends};
@@ -11,10 +13,11 @@ use std::alloc::{AllocError, Global};
 pub struct WrittenType<'p> {
     /// The number of its file.
     pub file: u32,
+    /// The type as it is written.
     pub spec: &'p TypeSpec,
 }
 
-/// Adds a type and those inside it.
+/// Adds a type and the types inside it.
 fn add_type<'p>(
     file: u32,
     spec: &'p TypeSpec,
@@ -106,8 +109,8 @@ fn add_unit<'p>(
     Ok(())
 }
 
-/// All types that a program writes, in order. It takes time in proportion to the program. The only
-/// error is want of memory.
+/// Returns all types that a program writes, in order. Takes time in proportion to the program.
+/// Fails only if memory runs out.
 pub fn written_types(alloc: Global, program: &[Entry]) -> Result<Vec<WrittenType<'_>>, AllocError>
     requires { length program.now ≤ 4096 }
     ensures { IfOk result (λ types. map told types.items ≡ written_types program.now) }

@@ -1,3 +1,4 @@
+//! Answers by resolvers, kept resolvers, and names.
 ghost use Rattle.std.specs.Prelude.{◌≡◌, ◌+◌, ◌<◌, ◌≤◌, ◌++◌, length, true, if◌then◌else◌, None, Some, IfOk, IfSome, IsSome, OnOk, OnErr, option_and_then, option_map};
 ghost use Rattle.ipdl_base.specs.Plain.{plain_message, plain_values};
 ghost use Rattle.ipdl_base.specs.Sound.{IsSound, message_of};
@@ -11,7 +12,7 @@ ghost use Rattle.channel_model.specs.Sends.{may_act};
 ghost use Rattle.end_parts.specs.NameContents.{named_by};
 ghost use Rattle.end_parts.specs.OutputView.{with_line};
 ghost use Rattle.end_parts.specs.PlainLines.{plain_what};
-ghost use Rattle.end_parts.specs.Renamings.{with_destroyed};
+ghost use Rattle.end_steps.specs.Renamings.{with_destroyed};
 ghost use Rattle.end_parts.specs.Replies.{answered_of, line_of_reply};
 ghost use Rattle.channel_core.specs.Answers.{with_resolver};
 ghost use Rattle.channel_core.specs.ResolverReplies.{IsCheckOf, IsReplyCheck, HasReserved, HasSaid, HasReplied, IsPushed, IsRefusedWith, FitsCheck, names_answered, reply_by, stack_answered};
@@ -21,19 +22,19 @@ use super::{End, is_open};
 use crate::answers::{KeepAnswer, NamedAnswer, ResolveAnswer};
 use crate::resolver::Resolver;
 use end_parts::{
-    AnsweredRequest, DestroyedReply, EndOutput, NameContent, NameEntries, Named, NewName, Packet,
-    StackEntries, answer_refusal, frame_of, new_name, push_destroyed, refused_line, reply_line,
-    resolver_reply, shown_id,
+    AnsweredRequest, EndOutput, NameContent, NameEntries, Named, Packet, StackEntries, frame_of,
+    refused_line, reply_line, resolver_reply, shown_id,
 };
+use end_steps::{DestroyedReply, NewName, answer_refusal, new_name, push_destroyed};
 use ipdl_base::{EndState, Line, Message, Name, Schema, SendRefusal, Side, Values, What};
 use std::alloc::{AllocError, Global};
 
 // Whether a reply may be sent.
 #[derive(Drop)]
 enum ReplyCheck {
-    // It may not, for the first cause that holds.
+    // The reply is refused, for the first cause that holds.
     Refused(SendRefusal),
-    // It may.
+    // The reply may be sent.
     Accepted(Message),
 }
 
@@ -41,9 +42,9 @@ impl<'s> End<'s> {
     ghost use Rattle.channel_core.specs.Answers.{AnswerGives, ResolveGives, NamedGives, KeepGives};
     ghost use Rattle.channel_core.specs.Steps.{IsStep, MayAnswer};
 
-    /// Answers a request with values, by the resolver of its handler: it is the step of an answer.
-    /// `Refused` comes exactly where a cause holds, with the first of them: the end is not open, the
-    /// values are too large, or one of their actors is dead.
+    /// Answers a request with values, by the resolver of its handler. This is the step of an
+    /// answer. Returns `Refused` exactly if a cause holds, with the first of them: the end is not
+    /// open, the values are too large, or one of their actors is dead.
     pub fn resolve(&mut self, resolver: Resolver, values: &Values) -> ResolveAnswer
         requires own { handled_resolver self.old.end resolver.seq ≡ Some resolver }
         requires may { MayAnswer self.old (event.handled resolver.seq) (Some (plain_values values.now)) }
@@ -54,7 +55,7 @@ impl<'s> End<'s> {
     }
 
     /// Rejects a request by the resolver of its handler: its sender gets the fault HandlerRejected.
-    /// `Refused` comes exactly where the end is not open.
+    /// Returns `Refused` exactly if the end is not open.
     pub fn reject(&mut self, resolver: Resolver) -> ResolveAnswer
         requires own { handled_resolver self.old.end resolver.seq ≡ Some resolver }
         requires may { MayAnswer self.old (event.handled resolver.seq) None }
@@ -86,8 +87,8 @@ impl<'s> End<'s> {
         answer
     }
 
-    // Whether a reply to a request of the message of this number may be sent, if a resolver for it
-    // is there. The only error is want of memory.
+    // Returns whether a reply to a request of the message of this number may be sent, if there is a
+    // resolver for it. Fails only if memory runs out.
     fn check_reply(
         &self,
         number: u32,
@@ -109,8 +110,8 @@ impl<'s> End<'s> {
         Ok(checked_reply(refusal, reply))
     }
 
-    /// Keeps the resolver of a handler under a name, in place of what that held; a closed end keeps
-    /// nothing.
+    /// Keeps the resolver of a handler under a name, in place of what that was bound to. A closed
+    /// end keeps nothing.
     pub fn keep(&mut self, resolver: Resolver, name: &Name) -> KeepAnswer
         requires own { handled_resolver self.old.end resolver.seq ≡ Some resolver }
         requires may { may_act self.old.end ≡ true }
@@ -141,8 +142,8 @@ impl<'s> End<'s> {
         }
     }
 
-    /// Gives a name to an actor, in place of what it held; with an id that is not positive the name
-    /// holds nothing. The only error is want of memory, which changes nothing.
+    /// Binds a name to an actor, in place of what it was bound to. An id that is not positive
+    /// unbinds the name. Fails only if memory runs out, and then nothing changes.
     pub fn name_actor(&mut self, name: &Name, id: i32) -> Result<(), AllocError>
         requires { may_act self.old.end ≡ true }
         ensures ok { OnOk result (IsStep self.old (event.name name.now id) self.new) }
@@ -166,16 +167,16 @@ impl<'s> End<'s> {
         Ok(())
     }
 
-    /// What a name holds. It takes no memory.
+    /// Returns what a name is bound to. Takes no memory.
     pub fn named(&self, name: &Name) -> Named
         ensures { result ≡ named_by (held_by_name name.now self.now.end.names) }
     {
         self.names.named(name)
     }
 
-    /// Answers a request of this message with values, by the resolver that a name holds. `Refused`
-    /// comes exactly where a cause holds, with the first of them: the end is not open, the name
-    /// holds no such resolver, the values are too large, or one of their actors is dead.
+    /// Answers a request of this message with values, by the resolver of a name. Returns `Refused`
+    /// exactly if a cause holds, with the first of them: the end is not open, the name has no such
+    /// resolver, the values are too large, or one of their actors is dead.
     pub fn resolve_named(&mut self, name: &Name, number: u32, values: &Values) -> NamedAnswer
         requires { MayAnswer self.old (event.kept name.now number) (Some (plain_values values.now)) }
         ensures { NamedGives self.old name.now number (Some (plain_values values.now)) result self.new }
@@ -183,9 +184,9 @@ impl<'s> End<'s> {
         self.answer_named(name, number, Some(values))
     }
 
-    /// Rejects a request of this message by the resolver that a name holds: its sender gets the
-    /// fault HandlerRejected. `Refused` comes exactly where the end is not open, or the name holds
-    /// no such resolver.
+    /// Rejects a request of this message by the resolver of a name: its sender gets the fault
+    /// HandlerRejected. Returns `Refused` exactly if the end is not open, or the name has no such
+    /// resolver.
     pub fn reject_named(&mut self, name: &Name, number: u32) -> NamedAnswer
         requires { MayAnswer self.old (event.kept name.now number) None }
         ensures { NamedGives self.old name.now number None result self.new }
@@ -193,7 +194,7 @@ impl<'s> End<'s> {
         self.answer_named(name, number, None)
     }
 
-    // Answers a request of this message by the resolver that a name holds, with values or by
+    // Answers a request of this message by the resolver of a name, with values or by
     // HandlerRejected.
     fn answer_named(&mut self, name: &Name, number: u32, values: Option<&Values>) -> NamedAnswer
         requires { MayAnswer self.old (event.kept name.now number) (option_map (λ vs. plain_values vs.now) values) }
@@ -216,7 +217,7 @@ impl<'s> End<'s> {
     }
 }
 
-// An answer, with the resolver that is handed back where it was not used.
+// Returns the result of an answer, with the resolver if it was not used.
 fn with_resolver(answer: NamedAnswer, resolver: Resolver) -> ResolveAnswer
     ensures { result ≡ with_resolver answer resolver }
 {
@@ -227,7 +228,8 @@ fn with_resolver(answer: NamedAnswer, resolver: Resolver) -> ResolveAnswer
     }
 }
 
-// What the answer by a resolver repeats that a name holds for a request of this message.
+// Returns what the answer by the resolver of a name repeats, if that is of a request of this
+// message.
 fn named_request(names: &NameEntries, name: &Name, number: u32) -> Option<AnsweredRequest>
     ensures { option_map answered_of result ≡ option_map resolver_answered (option_and_then (resolver_of number) (held_by_name name.now names.now.names)) }
 {
@@ -239,7 +241,7 @@ fn named_request(names: &NameEntries, name: &Name, number: u32) -> Option<Answer
     }
 }
 
-// The reply by a resolver, if one is there. The only error is want of memory.
+// Returns the reply by a resolver, if there is one. Fails only if memory runs out.
 fn reply_by(
     alloc: Global,
     request: Option<&AnsweredRequest>,
@@ -256,7 +258,7 @@ fn reply_by(
     }
 }
 
-// What a check finds, by the refusal and the reply.
+// Returns what a check of a reply finds, by the refusal and the reply.
 fn checked_reply(refusal: Option<SendRefusal>, reply: Option<Message>) -> ReplyCheck
     requires { refusal ≡ None → IsSome reply }
     ensures { IsCheckOf refusal reply result }
@@ -268,7 +270,7 @@ fn checked_reply(refusal: Option<SendRefusal>, reply: Option<Message>) -> ReplyC
     }
 }
 
-// Says that an answer is refused. It wants memory for the line.
+// Prints that an answer is refused, for which it needs memory.
 fn refuse_answer(
     side: Side,
     cause: SendRefusal,
@@ -289,7 +291,7 @@ fn refuse_answer(
     }
 }
 
-// Says an answer and puts its reply. The only error is want of memory.
+// Prints an answer and appends its reply. Fails only if memory runs out.
 fn push_reply(
     alloc: Global,
     schema: &Schema,
@@ -312,8 +314,8 @@ fn push_reply(
     Ok(())
 }
 
-// Says what a check of a reply has found, and puts the reply that it accepts. Want of memory changes
-// nothing that is seen.
+// Prints what a check of a reply has found, and appends the reply if it is accepted. If memory runs
+// out, nothing that is seen changes.
 fn push_answer(
     alloc: Global,
     schema: &Schema,
@@ -335,7 +337,7 @@ fn push_answer(
     }
 }
 
-// The resolver of a handler is used where an answer by it was sent.
+// Notes that the resolver of a handler is used, if an answer by it was sent.
 fn use_handled(answer: &NamedAnswer, seq: i32, stack: &mut StackEntries)
     ensures { stack.new ≡ stack_answered answer.now seq stack.old }
 {
@@ -345,7 +347,7 @@ fn use_handled(answer: &NamedAnswer, seq: i32, stack: &mut StackEntries)
     }
 }
 
-// The resolver that a name holds is used where an answer by it was sent.
+// Notes that the resolver of a name is used, if an answer by it was sent.
 fn use_kept(answer: &NamedAnswer, name: &Name, names: &mut NameEntries)
     ensures { names.new.names ≡ names_answered answer.now name.now names.old.names }
 {
@@ -355,7 +357,7 @@ fn use_kept(answer: &NamedAnswer, name: &Name, names: &mut NameEntries)
     }
 }
 
-// Says the line of a name that holds something else, and answers for the resolver that it lets go.
+// Prints the line of a new binding of a name, and answers for the resolver that it destroys.
 fn push_named(side: Side, line: What, destroyed: Option<DestroyedReply>, out: &mut EndOutput)
     requires lines { 2 ≤ out.old.line_spare }
     requires packets { length out.old.frames + 1 ≤ out.old.packet_spare }
@@ -365,7 +367,7 @@ fn push_named(side: Side, line: What, destroyed: Option<DestroyedReply>, out: &m
     push_destroyed(side, destroyed, out);
 }
 
-// A name holds a resolver, in place of what it held; nothing at a closed end.
+// Binds a name to a resolver, in place of what it was bound to; does nothing at a closed end.
 fn hold_resolver(state: EndState, name: Name, resolver: Resolver, names: &mut NameEntries)
     requires { 0 < names.old.spare }
     ensures { names.new.names ≡ without_name name names.old.names ++ holding name (if is_closed state then None else Some (model.resolver resolver)) }
@@ -373,6 +375,6 @@ fn hold_resolver(state: EndState, name: Name, resolver: Resolver, names: &mut Na
     if state == EndState::Closed {
         names.remove(&name);
     } else {
-        names.hold(name, NameContent::Resolver(resolver.into_held()));
+        names.hold(name, NameContent::Resolver(resolver.into_kept()));
     }
 }

@@ -1,3 +1,4 @@
+//! Closing, dying, resumed calls, flushes, and what the owner fetches.
 ghost use Rattle.std.specs.Prelude.{◌≡◌, ◌≤◌, true, false, [], ◌∷◌, length, None, Some, IsOk, MatchOption, OnOk, OnErr};
 ghost use Rattle.channel_model.specs.Acts.{close_refusal, may_die};
 ghost use Rattle.channel_model.specs.Events as event;
@@ -7,7 +8,8 @@ ghost use Rattle.end_parts.specs.MovedLines.{HasMoved};
 
 use super::{End, is_open};
 use crate::answers::CloseAnswer;
-use end_parts::{CopiedAnswer, Packet, close_parts, receive_answer, resume_line};
+use end_parts::{CopiedAnswer, Packet, receive_answer, resume_line};
+use end_steps::close_parts;
 use history::History;
 use ipdl_base::{Destroy, EndState, Line, SendRefusal, What};
 use nesting_core::Answer;
@@ -17,9 +19,9 @@ impl<'s> End<'s> {
     ghost use Rattle.channel_core.specs.Answers.{CloseGives, ResumeGives};
     ghost use Rattle.channel_core.specs.Steps.{IsStep};
 
-    /// Closes, which rejects its promises and lets its actors fall: it is the step of a close.
-    /// `Refused` comes exactly where the end is not open, or a call waits or may go on. It takes no
-    /// memory where it is not refused.
+    /// Closes the end, rejects its promises and destroys its actors. This is the step of a close.
+    /// Returns `Refused` exactly if the end is not open, or a call waits or may resume. Takes no
+    /// memory unless the close is refused.
     pub fn close(&mut self) -> CloseAnswer
         requires { may_act self.old.end ≡ true }
         ensures { CloseGives self.old result self.new }
@@ -33,7 +35,7 @@ impl<'s> End<'s> {
         }
     }
 
-    // Why a close is refused.
+    // Returns why a close is refused.
     fn close_refusal(&self) -> Option<SendRefusal>
         ensures { result ≡ close_refusal self.now.end }
     {
@@ -46,7 +48,7 @@ impl<'s> End<'s> {
         }
     }
 
-    // Says that a close is refused.
+    // Prints that a close is refused.
     fn refuse_close(&mut self, cause: SendRefusal) -> CloseAnswer
         requires may { may_act self.old.end ≡ true }
         requires refused { close_refusal self.old.end ≡ Some cause }
@@ -64,7 +66,7 @@ impl<'s> End<'s> {
         }
     }
 
-    // Closes where nothing refuses it.
+    // Closes an end if nothing refuses it.
     fn close_now(&mut self)
         requires may { may_act self.old.end ≡ true }
         requires free { close_refusal self.old.end ≡ None }
@@ -89,8 +91,8 @@ impl<'s> End<'s> {
         self.state = EndState::Closed;
     }
 
-    /// Dies: what it has sent is followed by a mark, and nothing is settled. It is the step of a
-    /// death, and takes no memory.
+    /// Ends in a death: what the end has sent is followed by a mark, and nothing is settled. This
+    /// is the step of a death. Takes no memory.
     pub fn die(&mut self)
         requires { may_die self.old.end ≡ true }
         ensures { IsStep self.old event.die self.new }
@@ -106,8 +108,8 @@ impl<'s> End<'s> {
         self.pending.clear();
     }
 
-    /// The call on top goes on with its answer, as its sender receives it: it is the step of a
-    /// resume. `None` comes exactly where no call that has its answer is on top. It takes no memory.
+    /// Resumes the call on top with its answer, as its sender receives it. This is the step of a
+    /// resume. Returns `None` exactly if no call that has its answer is on top. Takes no memory.
     pub fn resume(&mut self) -> Option<Answer>
         ensures { ResumeGives self.old result self.new }
     {
@@ -126,8 +128,8 @@ impl<'s> End<'s> {
         Some(answer)
     }
 
-    /// Puts the requests of the outbox onto the link, and says how many these are: it is the step of
-    /// a flush. Where nothing can be flushed, it says 0 and changes nothing. It takes no memory.
+    /// Moves the requests of the outbox to the packets, and returns their number. This is the step
+    /// of a flush. If nothing can be flushed, returns 0 and changes nothing. Takes no memory.
     pub fn flush(&mut self) -> u32
         ensures nothing { may_flush self.old.end ≡ false → (self.new ≡ self.old) × (result ≡ 0) }
         ensures flushed { may_flush self.old.end ≡ true → IsStep self.old event.flush self.new × (result ≡ length self.old.end.outbox) }
@@ -145,14 +147,14 @@ impl<'s> End<'s> {
         count as u32
     }
 
-    /// Whether something can be flushed. It takes no memory.
+    /// Whether something can be flushed. Takes no memory.
     pub fn can_flush(&self) -> bool
         ensures { result ≡ may_flush self.now.end }
     {
         is_open(self.state) && self.out.waiting() != 0
     }
 
-    /// The oldest packet that was not handed out; `None` where there is none. It takes no memory.
+    /// Hands out the oldest packet that was not handed out, or `None`. Takes no memory.
     pub fn outgoing(&mut self) -> Option<Packet>
         ensures { MatchOption result ((self.old.packets ≡ []) × (self.new ≡ self.old))
             (λ packet. self.old ≡ record self.new { packets = packet ∷ self.new.packets }) }
@@ -160,8 +162,8 @@ impl<'s> End<'s> {
         self.out.take_packet()
     }
 
-    /// Moves the lines to a history. Want of memory moves none, and does not come where the history
-    /// has room for them.
+    /// Moves the lines to a history. If memory runs out, no line is moved; that cannot happen if
+    /// the history has room for them.
     pub fn drain(&mut self, into: &mut History) -> Result<(), AllocError>
         ensures ok { OnOk result ((self.new ≡ record self.old { lines = [] }) × HasMoved self.old.lines into.old into.new) }
         ensures err { OnErr result ((self.new ≡ self.old) × (into.new.lines ≡ into.old.lines)) }

@@ -1,3 +1,4 @@
+//! Deliveries: packets of the other side, and messages that anybody has sent.
 ghost use Rattle.std.specs.Prelude.{◌≡◌, ◌<◌, true, false, Some, None, IsSome, [], ◌∷◌, OnOk, OnErr, if◌then◌else◌, option_map};
 ghost use Rattle.ipdl_base.specs.declared.kinds.EndState.TheVariants.{Open};
 ghost use Rattle.ipdl_base.specs.Plain.{plain_message};
@@ -10,24 +11,25 @@ ghost use Rattle.channel_model.specs.Events as event;
 ghost use Rattle.channel_model.specs.Numbers.{counting, is_constructor, is_sync_row};
 ghost use Rattle.channel_model.specs.Parts.{farewell_item, farewell_line};
 ghost use Rattle.channel_model.specs.Refusals.{delivery_refusal};
-ghost use Rattle.end_parts.specs.Arrivals.{reply_answer};
-ghost use Rattle.end_parts.specs.DeliveryRefusals.{refusal_of};
+ghost use Rattle.end_steps.specs.Arrivals.{reply_answer};
+ghost use Rattle.end_steps.specs.DeliveryRefusals.{refusal_of};
 ghost use Rattle.end_parts.specs.PlainLines.{plain_what};
-ghost use Rattle.channel_core.specs.Delivered.{CarriedGives, IsFarewell, MayArrive, farewell, told_refusal};
+ghost use Rattle.channel_core.specs.Delivered.{CarriedGives, IsFarewell, MayArrive, farewell, refusal_answer};
 ghost use Rattle.channel_core.specs.Steps.{IsStepBy};
 
 use super::End;
 use crate::answers::DeliverAnswer;
-use end_parts::{
-    DeliveryRefusal, Packet, PacketReading, Receiver, answer_call, delivery_refusal,
-    is_constructor, read_packet, receive_end, receive_reply, receive_request,
+use end_parts::{Packet, PacketReading, read_packet};
+use end_steps::{
+    DeliveryRefusal, Receiver, answer_call, delivery_refusal, is_constructor, receive_end,
+    receive_reply, receive_request,
 };
 use ipdl_base::{Body, EndState, Kind, Level, Message, MessageRow, Rule, Semantics, What};
 use pending_queue::Item;
 use std::alloc::AllocError;
 
-/// The offsets in a frame, in the new layout, of the number of its message, of the message's own
-/// number and of the id of the actor that it makes.
+/// The offsets in a frame, in the new layout, of the number of its message, of the number of the
+/// request and of the id of the actor that it makes.
 const NUMBER_OFFSET: usize = 12;
 
 const SEQ_OFFSET: usize = 20;
@@ -37,8 +39,9 @@ const MADE_OFFSET: usize = 28;
 impl<'s> End<'s> {
     ghost use Rattle.channel_core.specs.Delivered.{DeliverGives};
 
-    /// Has a packet of the other end delivered, whatever bytes it has: it is the step of a delivery,
-    /// or the first fault of the packet (docs/frames.md, docs/channel.md), which changes nothing.
+    /// Delivers a packet of the other side, whatever bytes it has. This is the step of a delivery,
+    /// or returns the first fault of the packet (docs/frames.md, docs/channel.md) and changes
+    /// nothing.
     pub fn deliver(&mut self, packet: &Packet) -> DeliverAnswer
         requires open { self.old.end.state ≡ Open }
         requires few { self.old.end.delivered < 268435456 }
@@ -52,7 +55,7 @@ impl<'s> End<'s> {
         }
     }
 
-    /// Has a message that fits the schema delivered, whoever sent it, or refuses it, which changes
+    /// Delivers a message that fits the schema, whoever has sent it, or refuses it and changes
     /// nothing (docs/channel.md).
     pub fn deliver_message(&mut self, message: Message) -> DeliverAnswer
         requires open { self.old.end.state ≡ Open }
@@ -68,12 +71,12 @@ impl<'s> End<'s> {
             unreachable!();
         };
         match self.delivery_refusal(row, &message) {
-            Some(refusal) => told_refusal(refusal),
+            Some(refusal) => refusal_answer(refusal),
             None => answer_of(self.deliver_accepted(row, message).is_ok()),
         }
     }
 
-    // Why a message of a row is refused.
+    // Returns why a message of a row is refused.
     fn delivery_refusal(&self, row: &MessageRow, message: &Message) -> Option<DeliveryRefusal>
         requires few { self.now.end.delivered < 268435456 }
         requires found { message_of self.now.schema message.now.number ≡ Some row.now }
@@ -95,8 +98,8 @@ impl<'s> End<'s> {
         )
     }
 
-    // Delivers a message of a row that is not refused. The only error is want of memory, which
-    // changes nothing, here and in what follows.
+    // Delivers a message of a row that is not refused. Fails only if memory runs out, and then
+    // nothing changes, here and in the functions below.
     fn deliver_accepted(&mut self, row: &MessageRow, message: Message) -> Result<(), AllocError>
         requires open { self.old.end.state ≡ Open }
         requires few { self.old.end.delivered < 268435456 }
@@ -168,7 +171,7 @@ impl<'s> End<'s> {
         Ok(())
     }
 
-    // Delivers a goodbye, or the mark.
+    // Delivers a goodbye or the mark.
     fn deliver_farewell(&mut self, goodbye: Option<Message>) -> Result<(), AllocError>
         requires open { self.old.end.state ≡ Open }
         requires farewell { IsFarewell self.old.schema goodbye }
@@ -189,7 +192,7 @@ impl<'s> End<'s> {
     }
 }
 
-// The line of a goodbye, or of the mark, and how it arrives.
+// Returns the line of a goodbye or of the mark, and the item that arrives.
 fn farewell_parts(goodbye: Option<Message>) -> (What, Item)
     ensures line { plain_what result.0 ≡ farewell_line (farewell goodbye) }
     ensures item { plain_item result.1 ≡ farewell_item (farewell goodbye) }
@@ -207,7 +210,7 @@ fn farewell_parts(goodbye: Option<Message>) -> (What, Item)
     }
 }
 
-// A counter of constructors behind a request of this kind.
+// Returns the number of constructors after a request of this kind.
 fn counting(kind: Kind, constructors: u32) -> u32
     requires { is_constructor kind ≡ true → constructors < 4294967295 }
     ensures { result ≡ counting kind constructors }
@@ -219,7 +222,7 @@ fn counting(kind: Kind, constructors: u32) -> u32
     }
 }
 
-// The answer of a delivery, by whether there was memory for it.
+// Returns the result of a delivery, by whether there was memory for it.
 fn answer_of(is_done: bool) -> DeliverAnswer
     ensures { result ≡ (if is_done then DeliverAnswer.Done else DeliverAnswer.NoMemory) }
 {
@@ -230,9 +233,9 @@ fn answer_of(is_done: bool) -> DeliverAnswer
     }
 }
 
-// The answer for a refusal.
-fn told_refusal(refusal: DeliveryRefusal) -> DeliverAnswer
-    ensures { result ≡ told_refusal (Some (refusal_of refusal)) }
+// Returns the result for a refusal.
+fn refusal_answer(refusal: DeliveryRefusal) -> DeliverAnswer
+    ensures { result ≡ refusal_answer (Some (refusal_of refusal)) }
 {
     match refusal {
         DeliveryRefusal::WrongDirection => DeliverAnswer::Bad(

@@ -1,3 +1,4 @@
+//! Looks at an end, which change nothing.
 ghost use Rattle.std.specs.Prelude.{◌≡◌, ◌↔◌, IsTrue, Some, option_map};
 ghost use Rattle.channel_model.specs.Answers.{handled_resolver};
 ghost use Rattle.channel_model.specs.Returns.{dispatch_on_top};
@@ -10,28 +11,28 @@ use ipdl_base::Side;
 impl<'s> End<'s> {
     ghost use Rattle.channel_core.specs.Answers.{running_handler};
 
-    /// The side of the end. It takes no memory.
+    /// Returns the side of the end. Takes no memory.
     pub fn side(&self) -> Side
         ensures { result ≡ self.now.end.side }
     {
         self.side
     }
 
-    /// How many requests the end has sent. It takes no memory.
+    /// Returns the number of requests that the end has sent. Takes no memory.
     pub fn sent(&self) -> u32
         ensures { result ≡ self.now.end.sent }
     {
         self.sent
     }
 
-    /// How many requests were delivered to the end. It takes no memory.
+    /// Returns the number of requests that were delivered to the end. Takes no memory.
     pub fn delivered(&self) -> u32
         ensures { result ≡ self.now.end.delivered }
     {
         self.delivered
     }
 
-    /// The handler on top of the stack; `None` where none is. It takes no memory.
+    /// Returns the handler on top of the stack, or `None` if there is none. Takes no memory.
     pub fn running(&self) -> Option<RunningHandler>
         ensures { result ≡ option_map running_handler (dispatch_on_top self.now.end.stack) }
     {
@@ -44,8 +45,8 @@ impl<'s> End<'s> {
         })
     }
 
-    /// Whether a resolver is that of a request whose handler runs here, neither used nor kept. It
-    /// takes no memory.
+    /// Whether a resolver is that of a request whose handler runs here, neither used nor kept.
+    /// Takes no memory.
     pub fn has_resolver(&self, resolver: &Resolver) -> bool
         ensures { IsTrue result ↔ (handled_resolver self.now.end resolver.now.seq ≡ Some resolver.now) }
     {

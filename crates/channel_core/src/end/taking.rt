@@ -1,3 +1,4 @@
+//! Takes of arrived items, and returns of handlers.
 ghost use Rattle.std.specs.Prelude.{◌≡◌, ◌+◌, ◌<◌, ◌≤◌, true, ◌∷◌, Some, is_some, length, option_map, OnSome, OnOk, OnErr};
 ghost use Rattle.actor_tree.specs.Tree.{without};
 ghost use Rattle.ipdl_base.specs.declared.message.Body.TheVariants as request;
@@ -5,9 +6,9 @@ ghost use Rattle.ipdl_base.specs.Plain.{plain_body, plain_message, plain_values}
 ghost use Rattle.pending_queue.specs.Compression.{is_request};
 ghost use Rattle.channel_model.specs.Events as event;
 ghost use Rattle.end_parts.specs.PlainLines.{plain_what};
-ghost use Rattle.channel_model.specs.Takes.{dispatch_of, holding_of, taken_next, takes_in_state};
+ghost use Rattle.channel_model.specs.Takes.{dispatch_of, deferral_context_of, taken_next, takes_in_state};
 ghost use Rattle.channel_model.specs.ValueActors.{nulled};
-ghost use Rattle.end_parts.specs.BuiltActors.{with_built, IsFree};
+ghost use Rattle.end_steps.specs.BuiltActors.{with_built, IsFree};
 ghost use Rattle.channel_core.specs.NextItems.{farewell_line, farewell_reason, kind_of_item, resolver_by};
 ghost use Rattle.ipdl_base.specs.declared.value.Values.{Values as OfValues};
 ghost use Rattle.channel_core.specs.Taken.{IsHandling};
@@ -16,27 +17,27 @@ use super::{End, is_open};
 use crate::answers::{FinishAnswer, Handling, TakeAnswer};
 use crate::resolver::Resolver;
 use actor_tree::{Actor, Tree};
-use end_parts::{
-    AnswerPacket, CopiedAnswer, EndOutput, RequestPlan, StackEntries, answer_of, build_actor,
-    close_parts, copy_next, delete_by, null_dead_beside, plan_next, push_built, put_answer,
-    receive_answer, return_packet, settle_promise, take_message,
+use end_parts::{CopiedAnswer, EndOutput, StackEntries, null_dead_beside, receive_answer};
+use end_steps::{
+    AnswerPacket, RequestPlan, answer_of, build_actor, close_parts, copy_next, delete_by,
+    plan_next, push_built, put_answer, return_packet, settle_promise, take_message,
 };
 use ipdl_base::{
     Body, Destroy, EndState, Line, Message, MessageRow, Schema, Semantics, Values, What,
 };
 use nesting_core::Head;
-use pending_queue::{Holding, Item};
+use pending_queue::{DeferralContext, Item};
 use std::alloc::AllocError;
 use value_types::boxes_say_nothing;
 
-/// By what the other end ends: its goodbye, or the mark of its death.
+/// How the other side ends: by its goodbye, or by the mark of its death.
 #[derive(Clone, Copy)]
 enum Farewell {
     Goodbye,
     Mark,
 }
 
-/// What an item is.
+/// What kind an item is of.
 #[derive(Clone, Copy)]
 enum ItemKind {
     Request,
@@ -51,8 +52,8 @@ impl<'s> End<'s> {
     ghost use Rattle.channel_core.specs.Steps.{IsStep, MayReturn};
     ghost use Rattle.channel_core.specs.Taken.{TakeGives};
 
-    /// Takes the oldest item that has arrived and is not deferred: it is the step of a take.
-    /// `Nothing` comes exactly where nothing can be taken.
+    /// Takes the oldest item that has arrived and is not deferred. This is the step of a take.
+    /// Returns `Nothing` exactly if nothing can be taken.
     pub fn take(&mut self) -> TakeAnswer
         ensures { TakeGives self.old result self.new }
     {
@@ -64,14 +65,14 @@ impl<'s> End<'s> {
         }
     }
 
-    /// Whether something can be taken. It takes no memory.
+    /// Whether something can be taken. Takes no memory.
     pub fn can_take(&self) -> bool
         ensures { result ≡ is_some (taken_next self.now.end) }
     {
         self.next_kind().is_some()
     }
 
-    // What the item is that is taken next; `None` where nothing can be taken.
+    // Returns the kind of the item that is taken next, or `None` if nothing can be taken.
     fn next_kind(&self) -> Option<ItemKind>
         ensures kind { result ≡ next_kind self.now }
         ensures room { OnSome result (length self.now.end.stack < 64) }
@@ -79,7 +80,7 @@ impl<'s> End<'s> {
         if !takes_in_state(self.state) || !self.stack.takes() {
             return None;
         }
-        let holding = self.stack.holding(self.side);
+        let holding = self.stack.deferral_context(self.side);
         match self.pending.first(&holding) {
             None => None,
             Some(item) => Some(kind_of_item(item)),
@@ -93,7 +94,7 @@ impl<'s> End<'s> {
         ensures { TakeGives self.old result self.new }
     {
         boxes_say_nothing();
-        let holding = self.stack.holding(self.side);
+        let holding = self.stack.deferral_context(self.side);
         let plan = plan_next(
             self.alloc,
             self.schema,
@@ -109,14 +110,14 @@ impl<'s> End<'s> {
         }
     }
 
-    // Drops the request that is next, for the actor of an id.
+    // Drops the next request, for the actor of an id.
     fn drop_request(
         &mut self,
-        holding: &Holding,
+        holding: &DeferralContext,
         id: i32,
         packet: Option<AnswerPacket>,
     ) -> TakeAnswer
-        requires holding { holding.now ≡ holding_of self.old.end }
+        requires holding { holding.now ≡ deferral_context_of self.old.end }
         requires next { IsNextDrop self.old id packet }
         ensures { TakeGives self.old result self.new }
     {
@@ -132,14 +133,14 @@ impl<'s> End<'s> {
         TakeAnswer::Dropped
     }
 
-    // Handles the request that is next, with these values in its line, and builds its actor.
+    // Handles the next request, with these values in its line, and builds its actor.
     fn handle_request(
         &mut self,
-        holding: &Holding,
+        holding: &DeferralContext,
         shown: Values,
         built: Option<Actor>,
     ) -> TakeAnswer
-        requires holding { holding.now ≡ holding_of self.old.end }
+        requires holding { holding.now ≡ deferral_context_of self.old.end }
         requires next { IsNextHandling self.old (plain_values shown) built }
         requires room { length self.old.end.stack < 64 }
         ensures { TakeGives self.old result self.new }
@@ -165,16 +166,16 @@ impl<'s> End<'s> {
         requires { next_kind self.old ≡ Some ItemKind.Reply }
         ensures { TakeGives self.old result self.new }
     {
-        let holding = self.stack.holding(self.side);
+        let holding = self.stack.deferral_context(self.side);
         match copy_next(self.alloc, &self.pending, &holding) {
             Err(_) => TakeAnswer::NoMemory,
             Ok(copy) => self.settle_reply(&holding, copy),
         }
     }
 
-    // Takes the reply that is next, with a second copy of its values.
-    fn settle_reply(&mut self, holding: &Holding, copy: Option<Values>) -> TakeAnswer
-        requires holding { holding.now ≡ holding_of self.old.end }
+    // Takes the next reply, with a second copy of its values.
+    fn settle_reply(&mut self, holding: &DeferralContext, copy: Option<Values>) -> TakeAnswer
+        requires holding { holding.now ≡ deferral_context_of self.old.end }
         requires next { IsNextReply self.old copy }
         ensures { TakeGives self.old result self.new }
     {
@@ -199,7 +200,7 @@ impl<'s> End<'s> {
         TakeAnswer::Settled
     }
 
-    // Takes a goodbye or a mark, which closes the end.
+    // Takes a goodbye or a mark, and closes the end.
     fn shut(&mut self, farewell: Farewell) -> TakeAnswer
         requires { next_kind self.old ≡ Some (ItemKind.Farewell farewell) }
         ensures { TakeGives self.old result self.new }
@@ -226,9 +227,9 @@ impl<'s> End<'s> {
         TakeAnswer::Shut
     }
 
-    /// The handler on top returns: it is the step of a return. The resolver is that of its request,
-    /// where it was neither used nor kept; it is let go. Values stand only for a sync message with
-    /// returns.
+    /// Returns from the handler on top. This is the step of a return. The resolver is that of its
+    /// request, if it was neither used nor kept; it is destroyed. Only a sync message with returns
+    /// has values.
     pub fn finish(&mut self, resolver: Option<Resolver>, values: Option<&Values>) -> FinishAnswer
         requires may { MayReturn self.old (option_map (λ vs. plain_values vs.now) values) }
         requires back { IsHandedBack self.old resolver }
@@ -240,7 +241,7 @@ impl<'s> End<'s> {
         }
     }
 
-    // The handler on top returns. The only error is want of memory.
+    // Returns from the handler on top. Fails only if memory runs out.
     fn return_handler(&mut self, values: Option<&Values>) -> Result<(), AllocError>
         requires { MayReturn self.old (option_map (λ vs. plain_values vs.now) values) }
         ensures ok { OnOk result (IsStep self.old (event.return (option_map (λ vs. plain_values vs.now) values.entry)) self.new) }
@@ -280,7 +281,7 @@ impl<'s> End<'s> {
     }
 }
 
-// Whether an end of this state may take.
+// Whether an end of this state takes items.
 fn takes_in_state(state: EndState) -> bool
     ensures { result ≡ takes_in_state state }
 {
@@ -290,7 +291,7 @@ fn takes_in_state(state: EndState) -> bool
     }
 }
 
-// The line of a farewell that is taken.
+// Returns the line of a farewell that is taken.
 fn line_of(farewell: Farewell) -> What
     ensures { plain_what result ≡ farewell_line farewell }
 {
@@ -300,7 +301,7 @@ fn line_of(farewell: Farewell) -> What
     }
 }
 
-// The reason for which an end closes then.
+// Returns the reason for which an end then closes.
 fn reason_of(farewell: Farewell) -> Destroy
     ensures { result ≡ farewell_reason farewell }
 {
@@ -310,7 +311,7 @@ fn reason_of(farewell: Farewell) -> Destroy
     }
 }
 
-// What an item is.
+// Returns the kind of an item.
 fn kind_of_item(item: &Item) -> ItemKind
     ensures { result ≡ kind_of_item item.now }
 {
@@ -324,8 +325,8 @@ fn kind_of_item(item: &Item) -> ItemKind
     }
 }
 
-// Makes room for the lines of a request that is handled, and builds its actor. Want of memory changes
-// nothing.
+// Makes room for the lines of a request that is handled, and builds its actor. If memory runs out,
+// nothing changes.
 fn reserve_and_build(
     built: Option<Actor>,
     tree: &mut Tree,
@@ -343,7 +344,7 @@ fn reserve_and_build(
     build_actor(tree, built)
 }
 
-// Puts the dispatch of a request on top.
+// Pushes the dispatch of a request.
 fn push_dispatch(row: &MessageRow, message: &Message, stack: &mut StackEntries)
     requires { length stack.old < 64 }
     ensures { stack.new ≡ dispatch_of row.now message.now ∷ stack.old }
@@ -363,7 +364,7 @@ fn push_dispatch(row: &MessageRow, message: &Message, stack: &mut StackEntries)
     );
 }
 
-// A request as it is handled, behind the building of its actor.
+// Returns a request as it is handled, after its actor was built.
 fn handling_of(schema: &Schema, tree: &Tree, row: &MessageRow, message: Message) -> Handling
     requires { is_request message.body ≡ true }
     ensures { (given : OfValues) → plain_body message.body ≡ request.Request given
@@ -388,8 +389,8 @@ fn handling_of(schema: &Schema, tree: &Tree, row: &MessageRow, message: Message)
     }
 }
 
-// The values of a request, with null for the actors of nullable types that did not live before it
-// built its own.
+// Returns the values of a request, with null for the actors of nullable types that did not live
+// before it built its own.
 fn handled_values(schema: &Schema, tree: &Tree, row: &MessageRow, made: i32, body: Body) -> Values
     requires { is_request body ≡ true }
     ensures { (given : OfValues) → plain_body body ≡ request.Request given
@@ -405,7 +406,7 @@ fn handled_values(schema: &Schema, tree: &Tree, row: &MessageRow, made: i32, bod
     }
 }
 
-// The resolver for a request, where its message is async with returns.
+// Returns the resolver for a request, if its message is async with returns.
 fn resolver_for(row: &MessageRow, seq: i32, route: i32, number: u32) -> Option<Resolver>
     ensures { result ≡ resolver_by row.now seq route number }
 {

@@ -11,7 +11,7 @@ use Rattle.host_io.specs.Streams.{bytes_of}
 use Rattle.ipdl_cli.specs.Ending.{EndsByReads, IsAnswerTo, only_written}
 use Rattle.ipdl_cli.proofs.run.Goals as goal
 
--- how a call ends before which nothing was read or written
+-- how a call ends if nothing was read or written before it
 from_nothing : (IsIt : FileViews → CommandAnswer → Type 0) (old new : List ReadEntry) (code : ℕ) (out out' err err' : List ℕ) → old ≡ [] → out ≡ [] → err ≡ []
     → EndsByReads None old new IsIt code (record { old = Some out; new = Some out' }) (record { old = Some err; new = Some err' })
     → EndsByReads None [] new IsIt code (only_written out') (only_written err')
@@ -36,7 +36,7 @@ returns-clause-answers g c =
       ends = ends.ends;
     }
 
--- what was put into a stream that held nothing is all that it holds
+-- what was written to an empty stream is all that it contains
 all_of : (old new text : List ℕ) → old ≡ [] → Some new ≡ Some (old ++ text) → new ≡ text
 all_of old new text none put = same_Some _ _ put ∙ ap (λ bytes. bytes ++ text) none
 

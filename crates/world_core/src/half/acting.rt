@@ -1,3 +1,4 @@
+//! The actions of main and of handlers.
 ghost use Rattle.std.specs.Prelude.{◌≡◌, ◌<◌, ℤ, true, Some, None, option_map};
 ghost use Rattle.channel_model.specs.Events as event;
 ghost use Rattle.handler_script.specs.Valid.{answers_handled};
@@ -15,7 +16,7 @@ impl<'s> Half<'s> {
     ghost use Rattle.world_core.specs.CountsSteps.{with_act, with_answer};
     ghost use Rattle.world_core.specs.NextSteps.{EventGives, HandledGives, HasOwn, IsOnTop, context_in, counting_of};
 
-    // Does an action of the innermost handler, or of main where none runs.
+    // Does an action of the innermost handler, or of main if no handler runs.
     pub(crate) fn act(&mut self, action: &Action) -> StepAnswer
         ghost seq: { ℤ }
         requires own { answers_handled action.now ≡ true → HasOwn self.old seq }
@@ -152,7 +153,7 @@ impl<'s> Half<'s> {
         }
     }
 
-    // Answers by values with a resolver that a name holds.
+    // Answers by values with the resolver of a name.
     fn resolve_named(&mut self, name: &Name, number: u32, terms: &Terms) -> StepAnswer
         requires on_top { IsOnTop self.old }
         requires allowed { IsAllowed self.old.end.schema self.old.end.end
@@ -172,7 +173,7 @@ impl<'s> Half<'s> {
         }
     }
 
-    // Rejects with a resolver that a name holds.
+    // Rejects with the resolver of a name.
     fn reject_named(&mut self, name: &Name, number: u32) -> StepAnswer
         requires allowed { IsAllowed self.old.end.schema self.old.end.end (event.answer (event.kept name.now number) None) }
         requires room { self.old.counts.events < 4294967295 }

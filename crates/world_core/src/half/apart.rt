@@ -1,4 +1,4 @@
-//! What a half does by itself, apart from any link.
+//! What a half does by itself, with no link.
 ghost use Rattle.std.specs.Prelude.{◌≡◌, ◌<◌, ◌≤◌, [], None, length, map, nat_lt, true, OnOk};
 ghost use Rattle.channel_core.specs.EndView.{IsFramed, packet_of};
 ghost use Rattle.channel_model.specs.Ends as ends;
@@ -19,9 +19,9 @@ impl<'s> Half<'s> {
     ghost use Rattle.world_core.specs.HalfView.{IsCountedBy};
     ghost use Rattle.world_core.specs.Relaying.{AcceptGives, BreaksOff, ContentGives, DeliversFor, GoingGives, HasLineRoom, HasTakenOver, InEach, IsApart, PutGives, own_progress};
 
-    /// One own step of a half that goes by itself: what the end does next by its script. `Nothing`
-    /// comes exactly where it does nothing, and `Spent` exactly where it does something but has as
-    /// many events as it may have.
+    /// Makes one own step of a half that runs by itself: what the end does next by its script. Returns
+    /// `Nothing` exactly if it has no own step, and `Spent` exactly if it has one but has reached its limit
+    /// of events.
     pub fn go_on(&mut self) -> StepAnswer
         requires { IsApart self.old }
         ensures { InEach self.old (λ setting side state handed. GoingGives setting side state handed result self.new) }
@@ -32,7 +32,7 @@ impl<'s> Half<'s> {
         }
     }
 
-    // The same, where there is room for the lines.
+    // Makes one own step, where there is room for the lines.
     fn step_on(&mut self) -> StepAnswer
         requires apart { IsApart self.old }
         requires room { HasLineRoom self.old }
@@ -43,17 +43,18 @@ impl<'s> Half<'s> {
         answer
     }
 
-    /// The oldest packet that was not handed out; `None` exactly where all were. It takes no memory.
+    /// Hands out the oldest packet that was not handed out, or returns `None` exactly if all were. Takes no
+    /// memory.
     pub fn put(&mut self) -> Option<Packet>
         ensures { InEach self.old (λ setting side state handed. PutGives setting side state handed result self.new) }
     {
         self.end.outgoing()
     }
 
-    /// Has a packet delivered, where the half has no own step, or the mark of a death in place of one
-    /// that its end refuses. `Nothing` comes exactly where the end is not open, else `Spent` exactly
-    /// where it has as many events as it may have, and else `Refused` exactly where it refuses the
-    /// packet. A packet that a half hands out is read as what it was made of.
+    /// Delivers a packet to a half with no own step, or the mark of a death in place of a packet that its end
+    /// refuses. Returns `Nothing` exactly if the end is not open, else `Spent` exactly if it has reached its
+    /// limit of events, and else `Refused` exactly if it refuses the packet. A packet that a half hands out
+    /// is read as what it was made of.
     pub fn accept(&mut self, packet: &Packet) -> AcceptAnswer
         requires apart { IsApart self.old }
         requires rests { next_of self.old (own_progress self.old) ≡ None }
@@ -76,7 +77,7 @@ impl<'s> Half<'s> {
         }
     }
 
-    // The same, where the end is open and there is room for one event more and its lines.
+    // Delivers a packet, where the end is open and there is room for one event more and its lines.
     fn take_in(&mut self, packet: &Packet) -> AcceptAnswer
         requires apart { IsApart self.old }
         requires rests { next_of self.old (own_progress self.old) ≡ None }
@@ -91,7 +92,7 @@ impl<'s> Half<'s> {
         answer
     }
 
-    // Has a packet delivered, or the mark of a death in its place.
+    // Delivers a packet, or the mark of a death in its place.
     fn deliver_for(&mut self, packet: &Packet) -> AcceptAnswer
         ghost progress: { Progress }
         requires counted { IsCountedBy self.old progress }
@@ -108,7 +109,7 @@ impl<'s> Half<'s> {
         }
     }
 
-    // Has the mark of a death delivered in place of a packet.
+    // Delivers the mark of a death in place of a packet.
     fn break_off(&mut self) -> AcceptAnswer
         ghost progress: { Progress }
         requires counted { IsCountedBy self.old progress }
@@ -124,7 +125,7 @@ impl<'s> Half<'s> {
         }
     }
 
-    // Has a packet delivered, or refuses it and changes nothing.
+    // Delivers a packet, or refuses it and changes nothing.
     fn offer_packet(&mut self, packet: &Packet) -> DeliverAnswer
         ghost progress: { Progress }
         requires counted { IsCountedBy self.old progress }
@@ -146,7 +147,7 @@ impl<'s> Half<'s> {
         }
     }
 
-    // Makes room for all lines that may come to be the half's own.
+    // Makes room for all lines that the half may ever have.
     fn make_room(&mut self) -> Result<(), AllocError>
         ensures same { self.new ≡ record self.old { spare = self.new.spare } }
         ensures room { OnOk result (HasLineRoom self.new) }
@@ -156,7 +157,7 @@ impl<'s> Half<'s> {
         self.history.reserve(most.saturating_sub(have))
     }
 
-    // Takes the lines of the end over. It takes no memory, since there is room for them.
+    // Takes over the lines of the end. Takes no memory, since there is room for them.
     fn take_over(&mut self)
         requires { length self.old.end.lines ≤ self.old.spare }
         ensures { HasTakenOver self.old self.new }
@@ -166,22 +167,22 @@ impl<'s> Half<'s> {
         }
     }
 
-    /// The lines that the half has taken over from its end and appended to no link: all its lines,
-    /// where it goes by itself. It takes no memory.
+    /// Returns the lines that the half has taken over from its end and appended to no link: all its lines, if
+    /// it runs by itself. Takes no memory.
     pub fn lines(&self) -> &History
         ensures { map plain_line result.now.lines ≡ self.now.history }
     {
         &self.history
     }
 
-    /// The same, given away. It takes no memory.
+    /// Gives away the lines that the half has taken over. Takes no memory.
     pub fn into_lines(self) -> History
         ensures { map plain_line result.lines ≡ self.entry.history }
     {
         self.history
     }
 
-    /// The half goes by itself from here on, with no line taken over.
+    /// Lets the half run by itself from here on, with no line taken over.
     pub(crate) fn set_out(&mut self)
         ensures { self.new ≡ record self.old { history = []; spare = self.new.spare } }
     {

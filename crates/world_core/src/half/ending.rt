@@ -1,3 +1,4 @@
+//! Steps that close, kill, resume or flush an end.
 ghost use Rattle.std.specs.Prelude.{◌≡◌, ◌≢◌, ◌<◌, true, None};
 ghost use Rattle.channel_model.specs.Events as event;
 ghost use Rattle.channel_model.specs.Acts.{may_die};
@@ -12,7 +13,7 @@ impl<'s> Half<'s> {
     ghost use Rattle.world_core.specs.CountsSteps.{with_act, with_death, with_event};
     ghost use Rattle.world_core.specs.NextSteps.{EventGives};
 
-    // Closes.
+    // Closes the end.
     pub(crate) fn close(&mut self) -> StepAnswer
         requires may { may_act self.old.end.end ≡ true }
         requires room { self.old.counts.events < 4294967295 }
@@ -27,7 +28,7 @@ impl<'s> Half<'s> {
         }
     }
 
-    // Dies.
+    // Kills the end.
     pub(crate) fn die(&mut self) -> StepAnswer
         requires may { may_die self.old.end.end ≡ true }
         requires room { self.old.counts.events < 4294967295 }
@@ -38,7 +39,7 @@ impl<'s> Half<'s> {
         StepAnswer::Did
     }
 
-    // The call on top goes on with its answer.
+    // Resumes the call on top with its answer.
     pub(crate) fn resume(&mut self) -> StepAnswer
         requires may { answered_wait_on_top self.old.end.end.stack ≢ None }
         requires room { self.old.counts.events < 4294967295 }

@@ -1,4 +1,4 @@
-//! What a half does whose other side is nobody.
+//! What a half does that no other half faces.
 ghost use Rattle.std.specs.Prelude.{◌≡◌, ◌<◌, [], true, nat_lt, OnOk};
 ghost use Rattle.ipdl_base.specs.Plain.{plain_message};
 ghost use Rattle.value_types.specs.Fits.{Fits};
@@ -17,15 +17,14 @@ impl<'s> Half<'s> {
     ghost use Rattle.world_core.specs.HalfSteps.{OfferGives};
     ghost use Rattle.world_core.specs.HalfView.{IsCountedBy, appended};
 
-    /// The side of the half.
+    /// Returns the side of the half.
     pub(crate) fn side(&self) -> Side
         ensures { result ≡ self.now.end.end.side }
     {
         self.end.side()
     }
 
-    /// Has a message that fits the schema delivered, whoever sent it, or refuses it and changes
-    /// nothing.
+    /// Delivers a message that fits the schema, whoever sent it, or refuses it and changes nothing.
     pub(crate) fn offer(&mut self, message: Message) -> DeliverAnswer
         ghost progress: { Progress }
         requires counted { IsCountedBy self.old progress }
@@ -48,8 +47,7 @@ impl<'s> Half<'s> {
         }
     }
 
-    /// Moves the lines of the half to a history, and lets its packets go. The only error is want of
-    /// memory.
+    /// Moves the lines of the half to a history, and drops its packets. Fails only if memory runs out.
     pub(crate) fn store(&mut self, into: &mut History) -> Result<(), AllocError>
         ensures half { OnOk result (self.new ≡ appended self.old) }
         ensures lines { OnOk result (HasMoved self.old.end.lines into.old into.new) }
@@ -60,7 +58,7 @@ impl<'s> Half<'s> {
     }
 }
 
-// The packets of an end go.
+// Drops the packets of an end.
 fn drop_packets(end: &mut End<'_>)
     ensures { end.new ≡ record end.old { packets = [] } }
 {

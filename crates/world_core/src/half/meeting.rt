@@ -1,6 +1,6 @@
-//! What a half does apart from the link, and what it does when it meets it.
+//! What a half does away from the link, and what it does when it meets the link.
 ghost use Rattle.std.specs.Prelude.{◌≡◌, ◌++◌, List, is_some, not, option_map};
-ghost use Rattle.channel_model.specs.Numbers.{other};
+ghost use Rattle.ipdl_base.specs.Sides.{other};
 ghost use Rattle.ipdl_base.specs.declared.kinds.Side.{Side as EndSide};
 ghost use Rattle.ipdl_base.specs.declared.line.Line.{Line};
 ghost use Rattle.script_steps.specs.Choices.{Setting};
@@ -17,49 +17,48 @@ use schedules::Stop;
 impl<'s> Half<'s> {
     ghost use Rattle.world_core.specs.HalfSteps.{OwnGives, next_of};
     ghost use Rattle.world_core.specs.HalfView.{IsCountedBy, appended};
-    ghost use Rattle.world_core.specs.Halves.{Delivers, DeliveriesEnd, FitsBehind, HasMet, IsHome, MeetEnds};
+    ghost use Rattle.world_core.specs.Halves.{Delivers, DeliveriesEnd, FitsAfter, HasMet, IsHome, MeetEnds};
     ghost use Rattle.world_core.specs.LinkView.{IsAppended};
     ghost use Rattle.world_core.specs.SideTurns.{StandsIn};
     ghost use Rattle.world_core.specs.WorldView.{seen_by, state_of};
 
-    /// One own step: what the end does next by its script. `Nothing` comes exactly where it does
-    /// nothing, and `Spent` exactly where it does something but has as many events as it may have.
+    /// Makes one own step: what the end does next by its script. Returns `Nothing` exactly if it has no own
+    /// step, and `Spent` exactly if it has one but has reached its limit of events.
     pub fn own(&mut self) -> StepAnswer
         ghost at: { Setting × EndSide × List Line }
-        requires { FitsBehind at.0 at.1 at.2 self.old }
+        requires { FitsAfter at.0 at.1 at.2 self.old }
         ensures gives { OwnGives self.old (progress_of at.1 (at.2 ++ self.old.end.lines)) result self.new }
-        ensures fits { FitsBehind at.0 at.1 at.2 self.new }
+        ensures fits { FitsAfter at.0 at.1 at.2 self.new }
     {
         self.own_step()
     }
 
-    /// Whether the half has no own step to do: exactly where `own` answers `Nothing`. It takes no
-    /// memory.
+    /// Returns whether the half has no own step: exactly if `own` returns `Nothing`. Takes no memory.
     pub fn rests(&self) -> bool
         ensures { (progress : Progress) → IsCountedBy self.now progress → result ≡ not (is_some (next_of self.now progress)) }
     {
         self.next_step().is_none()
     }
 
-    /// Appends to the link the lines and packets that the half has stored since it was there last,
-    /// and delivers nothing. It takes no memory, since the link has room for all that may come.
+    /// Appends to the link the lines and packets that the half has stored since its last visit, and delivers
+    /// nothing. Takes no memory, since the link has room for all that may come.
     pub fn hand_in(&mut self, link: &mut Link)
         ghost at: { Setting × EndSide }
-        requires fits { FitsBehind at.0 at.1 link.old.lines self.old }
+        requires fits { FitsAfter at.0 at.1 link.old.lines self.old }
         requires home { IsHome at.0 link.old }
         ensures half { self.new ≡ appended self.old }
         ensures appends { IsAppended link.old self.old.end.lines (other at.1) self.old.end.packets link.new }
         ensures home { IsHome at.0 link.new }
-        ensures fits { FitsBehind at.0 at.1 link.new.lines self.new }
+        ensures fits { FitsAfter at.0 at.1 link.new.lines self.new }
     {
         self.append(link);
     }
 
-    /// Hands in to the link, and then has delivered what waits for the half, one packet after
-    /// another, as long as its end is open.
+    /// Hands in to the link, and then delivers what waits for the half, packet by packet, as long as its end
+    /// is open.
     pub fn meet(&mut self, link: &mut Link) -> MeetAnswer
         ghost at: { Setting × EndSide }
-        requires fits { FitsBehind at.0 at.1 link.old.lines self.old }
+        requires fits { FitsAfter at.0 at.1 link.old.lines self.old }
         requires home { IsHome at.0 link.old }
         ensures met { HasMet at.0 at.1 self.old link.old self.new link.new }
         ensures ends { MeetEnds at.1 self.old result self.new link.new }
@@ -74,7 +73,7 @@ impl<'s> Half<'s> {
         }
     }
 
-    // Has delivered what waits for the half, as long as its end is open.
+    // Delivers what waits for the half, as long as its end is open.
     fn deliver_all(&mut self, link: &mut Link) -> StepAnswer
         ghost at: { Setting × EndSide }
         requires { StandsIn (seen_by at.0 link.old) at.1 self.old link.old }
@@ -91,7 +90,7 @@ impl<'s> Half<'s> {
         }
     }
 
-    /// What the run of the half is about.
+    /// The setting of the run.
     pub(crate) fn schema(&self) -> &'s Schema
         ensures { result.now ≡ self.now.end.schema }
     {

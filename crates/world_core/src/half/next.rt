@@ -1,3 +1,4 @@
+//! What a half does next.
 ghost use Rattle.std.specs.Prelude.{◌≡◌, option_map};
 ghost use Rattle.script_steps.specs.NextEvent.{is_stopped};
 ghost use Rattle.script_steps.specs.Progress.{Progress};
@@ -20,14 +21,14 @@ pub(crate) enum NextStep {
     Handler,
 }
 
-// The block at a place of a script, if there is one.
+// Returns the block at an index of a script, if there is one.
 pub(super) fn block_at(script: &Script, place: Option<u32>) -> Option<&Block>
     ensures { option_map (λ b. b.now) result ≡ block_at script.now place }
 {
     script.blocks.as_slice().get(place? as usize)
 }
 
-// The action of this index in it.
+// Returns the action at an index of a block, if there is one.
 fn action_in(script: &Script, place: Option<u32>, index: u32) -> Option<&Action>
     ensures { option_map (λ a. a.now) result ≡ action_in (block_at script.now place) index }
 {
@@ -39,7 +40,7 @@ impl<'s> Half<'s> {
     ghost use Rattle.world_core.specs.HalfView.{IsCountedBy};
     ghost use Rattle.world_core.specs.NextSteps.{IsByTop, IsNext, handlers_action, main_action};
 
-    // What the half does next by its script.
+    // Returns what the half does next by its script.
     pub(crate) fn next_step(&self) -> Option<NextStep>
         ensures { (progress : Progress) → IsCountedBy self.now progress → IsNext self.now progress result }
     {
@@ -55,7 +56,7 @@ impl<'s> Half<'s> {
         }
     }
 
-    // Whether the half is to die.
+    // Returns whether the half must die.
     fn is_stopped(&self) -> bool
         ensures { (progress : Progress) → IsCountedBy self.now progress → result ≡ is_stopped self.now.stop self.now.end.end.side progress }
     {
@@ -65,7 +66,7 @@ impl<'s> Half<'s> {
         }
     }
 
-    // What the frame on top asks for.
+    // Returns what the frame on top requires.
     fn by_top(&self) -> Option<NextStep>
         ensures { (progress : Progress) → IsCountedBy self.now progress → IsByTop self.now progress result }
     {
@@ -79,7 +80,7 @@ impl<'s> Half<'s> {
         }
     }
 
-    // The next action of main, at an open end.
+    // Returns the next action of main, if the end is open.
     pub(crate) fn main_action(&self) -> Option<&'s Action>
         ensures { (progress : Progress) → IsCountedBy self.now progress → (option_map (λ a. a.now) result ≡ main_action self.now progress) }
     {
@@ -89,7 +90,7 @@ impl<'s> Half<'s> {
         }
     }
 
-    // The next action of the innermost handler.
+    // Returns the next action of the innermost handler.
     pub(crate) fn handler_action(&self) -> Option<&'s Action>
         ensures { (progress : Progress) → IsCountedBy self.now progress → option_map (λ a. a.now) result ≡ handlers_action self.now progress.handled }
     {

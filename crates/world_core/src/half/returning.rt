@@ -1,3 +1,4 @@
+//! The return of a handler.
 ghost use Rattle.std.specs.Prelude.{◌≡◌, ◌<◌, IfOk, option_map};
 ghost use Rattle.ipdl_base.specs.Plain.{plain_values};
 ghost use Rattle.handler_script.specs.ValueOf.{values_of};
@@ -17,7 +18,7 @@ impl<'s> Half<'s> {
     ghost use Rattle.world_core.specs.NextSteps.{EventGives, IsOnTop, context_in, reply_by, return_in};
     ghost use Rattle.world_core.specs.Resolvers.{resolver_on_top};
 
-    // The innermost handler returns.
+    // Returns from the innermost handler.
     pub(crate) fn finish(&mut self) -> StepAnswer
         requires on_top { IsOnTop self.old }
         requires back { IsHandedBack self.old.end (resolver_on_top self.old.counts.running) }
@@ -41,7 +42,7 @@ impl<'s> Half<'s> {
         }
     }
 
-    // The values that the innermost handler returns. The only error is want of memory.
+    // Returns the values that the innermost handler gives. Fails only if memory runs out.
     fn returned(&self) -> Result<Option<Values>, AllocError>
         requires { IsOnTop self.now }
         ensures { IfOk result (λ vs. option_map plain_values vs
@@ -53,7 +54,7 @@ impl<'s> Half<'s> {
         }
     }
 
-    // The terms of these values.
+    // Returns the terms of these values.
     fn reply(&self) -> Option<&'s Terms>
         ensures { option_map (λ ts. ts.now) result ≡ reply_by self.now.script self.now.counts.running }
     {

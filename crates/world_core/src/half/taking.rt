@@ -1,3 +1,4 @@
+//! The step that takes what arrived.
 ghost use Rattle.std.specs.Prelude.{◌≢◌, ◌<◌, None};
 ghost use Rattle.channel_model.specs.Takes.{taken_next};
 

@@ -1,3 +1,4 @@
+//! The values and actors that the terms of a script represent.
 ghost use Rattle.std.specs.Prelude.{◌≡◌, IfOk};
 ghost use Rattle.ipdl_base.specs.Plain.{plain_values};
 ghost use Rattle.handler_script.specs.ValueOf.{id_of, values_of};
@@ -33,7 +34,7 @@ impl<'a, 's> ActorNames for EndNames<'a, 's> {
 impl<'s> Half<'s> {
     ghost use Rattle.world_core.specs.NextSteps.{IsOnTop, context_in};
 
-    // The id of the actor that is spoken of.
+    // Returns the id of the actor that a term names.
     pub(crate) fn id_of(&self, who: &Who) -> i32
         requires { IsOnTop self.now }
         ensures { result ≡ id_of (context_in self.now) who.now }
@@ -63,7 +64,7 @@ impl<'s> Half<'s> {
         }
     }
 
-    // The values that terms stand for. The only error is want of memory.
+    // Returns the values that terms represent. Fails only if memory runs out.
     pub(crate) fn values_of(&self, terms: &Terms) -> Result<Values, AllocError>
         requires { IsOnTop self.now }
         ensures { IfOk result (λ vs. plain_values vs ≡ values_of (context_in self.now) terms.now) }

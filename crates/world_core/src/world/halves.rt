@@ -1,4 +1,4 @@
-//! A world taken apart into its halves and its link, and put together again.
+//! Splits a world into its halves and its link, and joins them again.
 ghost use Rattle.std.specs.Prelude.{◌≡◌, []};
 ghost use Rattle.ipdl_base.specs.declared.kinds.Side.TheVariants as sides;
 ghost use Rattle.relay_runs.specs.HalfRuns.{opening_half};
@@ -13,8 +13,8 @@ impl<'s> World<'s> {
     ghost use Rattle.world_core.specs.Relaying.{GoesApart};
     ghost use Rattle.world_core.specs.WorldView.{opening_of};
 
-    /// The parent, the child and the link of the run, each of which can go on apart. It takes no
-    /// memory.
+    /// Returns the parent, the child and the link of the run, each of which can continue on its own. Takes
+    /// no memory.
     pub fn split(self) -> (Half<'s>, Half<'s>, Link)
         ensures apart { IsSplit self.entry.setting result.0 result.1 result.2 }
         ensures same { joined result.0 result.2 ≡ self.entry }
@@ -22,7 +22,7 @@ impl<'s> World<'s> {
         (self.parent, self.child, self.link)
     }
 
-    /// The run of both halves and the link, which have nothing left to append. It takes no memory.
+    /// Joins both halves and the link, where no half has anything left to append. Takes no memory.
     pub fn join(parent: Half<'s>, child: Half<'s>, link: Link) -> World<'s>
         requires { IsSplit (setting_of parent) parent child link }
         ensures { result ≡ joined parent.entry link }
@@ -38,8 +38,8 @@ impl<'s> World<'s> {
         }
     }
 
-    /// The parent and the child of a run that has just begun, each of which goes by itself. It takes
-    /// no memory.
+    /// Returns the parent and the child of a run that has just begun, each of which continues by itself.
+    /// Takes no memory.
     pub fn into_halves(self) -> (Half<'s>, Half<'s>)
         requires { self ≡ opening_of self.setting }
         ensures parent { GoesApart self.entry.setting sides.Parent (opening_half self.entry.setting sides.Parent) [] result.0 }

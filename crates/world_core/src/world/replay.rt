@@ -1,4 +1,4 @@
-//! A run that follows the lines of a text, and how far it prints them (docs/audit.md).
+//! Replays the lines of a text, and reports how far the run prints them (docs/audit.md).
 ghost use Rattle.std.specs.Prelude.{◌≡◌, ◌++◌, ◌≤◌, ◌<◌, ◌≢◌, [], ◌∷◌, true, List, IfOk, length};
 ghost use Rattle.std.specs.Bool.{Decides};
 ghost use Rattle.ipdl_base.specs.declared.line.Line.{Line as OfLine};
@@ -8,20 +8,20 @@ use crate::answers::StepAnswer;
 use ipdl_base::Side;
 use schedules::Turn;
 use std::alloc::{AllocError, Global};
-use transcript_reader::{
-    Alike, Comparison, Ending, LineReading, read_ending, read_line, split_line,
+use transcripts::{
+    Comparison, Ending, LineMatch, TranscriptLine, read_ending, read_line, split_line,
 };
 use value_types::boxes_say_nothing;
 
-/// How far the lines of a text are those that a run prints which follows them (docs/audit.md).
+/// How far the lines of a text are the lines that a run prints which follows them (docs/audit.md).
 #[derive(Clone, Copy, Debug, PartialEq, Eq)]
 pub enum Replay {
-    /// The text is all that the run prints, with the line of how it ends. It has so many events.
-    Whole(u32),
-    /// The run prints all lines of the text, so many, but they are not the whole.
-    Short(u32),
-    /// The run prints so many first lines of the text, and not the next one.
-    Apart(u32),
+    /// The text is all that the run prints, with the line of how it ends. Has the number of events.
+    Complete(u32),
+    /// The run prints all lines of the text, but the text stops early. Has the number of its lines.
+    Incomplete(u32),
+    /// The run prints this number of first lines of the text, and not the next line.
+    Diverged(u32),
 }
 
 impl<'s> World<'s> {
@@ -29,16 +29,16 @@ impl<'s> World<'s> {
     ghost use Rattle.script_runs.specs.Endings.{EndsAs};
     ghost use Rattle.script_steps.specs.Choices.{beginning_of};
     ghost use Rattle.script_steps.specs.Turns.{at_limit, is_quiet, is_quiet_at};
-    ghost use Rattle.transcript_laws.specs.TextLines.{text_lines};
-    ghost use Rattle.transcript_reader.specs.Compared.{HasCompared, HasPassed, IsWithin, most_text_bytes};
-    ghost use Rattle.transcript_reader.specs.declared.line.LineReading.TheVariants as reading;
-    ghost use Rattle.transcript_reader.specs.Lines.{IsReadAs};
+    ghost use Rattle.transcripts.specs.TextLines.{text_lines};
+    ghost use Rattle.transcripts.specs.Compared.{HasCompared, HasPassed, IsWithin, most_text_bytes};
+    ghost use Rattle.transcripts.specs.declared.line.TranscriptLine.TheVariants as reading;
+    ghost use Rattle.transcripts.specs.Lines.{IsReadAs};
     ghost use Rattle.world_core.specs.Followed.{Goes, SaysEnding, TellsTurn, lines_seen};
     ghost use Rattle.world_core.specs.Replayed.{IsReplayed};
     ghost use Rattle.world_core.specs.Worlds.{most_events};
 
-    /// Follows the lines of a text from the beginning of the run, as far as it prints them. What is
-    /// kept of the text is the newest line. The only error is want of memory.
+    /// Follows the lines of a text from the beginning of the run, as far as the run prints them. Keeps only
+    /// the newest line of the text. Fails only if memory runs out.
     pub fn replay(&mut self, alloc: Global, text: &[u8]) -> Result<Replay, AllocError>
         requires begins { self.old.state ≡ beginning_of self.old.setting }
         requires few { length text.now ≤ most_text_bytes }
@@ -48,7 +48,7 @@ impl<'s> World<'s> {
         self.replay_left(&mut comparison)
     }
 
-    // Follows what is left of a text.
+    // Follows the rest of a text.
     fn replay_left(&mut self, comparison: &mut Comparison<'_>) -> Result<Replay, AllocError>
         requires { HasPassed self.old.state.lines comparison.old }
         ensures { IfOk result (IsReplayed self.old.setting (lines_seen self.old comparison.old)) }
@@ -60,7 +60,7 @@ impl<'s> World<'s> {
             }
         }
         self.is_lawful();
-        Ok(Replay::Short(comparison.lines()))
+        Ok(Replay::Incomplete(comparison.lines()))
     }
 
     // Follows the next line of a text, and what is printed with it.
@@ -70,15 +70,15 @@ impl<'s> World<'s> {
         ensures { IfOk result (λ found. Goes self.old comparison.old found self.new comparison.new) }
     {
         self.is_lawful();
-        let (line, behind) = split_line(comparison.left());
+        let (line, following) = split_line(comparison.left());
         match read_line(line) {
-            LineReading::Event(turn) => self.follow_turn(comparison, turn),
-            LineReading::Effect => Ok(Some(Replay::Apart(comparison.lines()))),
-            LineReading::Other => Ok(Some(self.end_at(comparison, line, behind)?)),
+            TranscriptLine::Event(turn) => self.follow_turn(comparison, turn),
+            TranscriptLine::Effect => Ok(Some(Replay::Diverged(comparison.lines()))),
+            TranscriptLine::Other => Ok(Some(self.end_at(comparison, line, following)?)),
         }
     }
 
-    // Does the turn that the next line of a text tells of, and compares what it prints.
+    // Makes the turn that the next line of a text reports, and compares what it prints.
     fn follow_turn(
         &mut self,
         comparison: &mut Comparison<'_>,
@@ -92,19 +92,19 @@ impl<'s> World<'s> {
         self.is_small();
         match self.step(turn) {
             StepAnswer::Did => match self.compare(comparison)? {
-                Alike::All => Ok(None),
-                Alike::Over => Ok(Some(Replay::Short(comparison.lines()))),
-                Alike::Other => Ok(Some(Replay::Apart(comparison.lines()))),
+                LineMatch::All => Ok(None),
+                LineMatch::Over => Ok(Some(Replay::Incomplete(comparison.lines()))),
+                LineMatch::Other => Ok(Some(Replay::Diverged(comparison.lines()))),
             },
             StepAnswer::Nothing | StepAnswer::Spent(_) => {
-                Ok(Some(Replay::Apart(comparison.lines())))
+                Ok(Some(Replay::Diverged(comparison.lines())))
             }
             StepAnswer::NoMemory => Err(AllocError),
         }
     }
 
-    // Compares the lines of the history behind those so far with what is left of a text.
-    fn compare(&self, comparison: &mut Comparison<'_>) -> Result<Alike, AllocError>
+    // Compares the lines of the history after those so far with the rest of a text.
+    fn compare(&self, comparison: &mut Comparison<'_>) -> Result<LineMatch, AllocError>
         requires within { IsWithin comparison.old }
         requires there { comparison.old.lines ≤ length self.now.state.lines }
         ensures { IfOk result (λ found. (before more : List OfLine) → self.now.state.lines ≡ before ++ more
@@ -118,30 +118,30 @@ impl<'s> World<'s> {
         comparison.compare(self.schema, newest)
     }
 
-    // How a replay ends at a line that tells of neither an event nor an effect.
+    // Returns how a replay ends at a line that reports neither an event nor an effect.
     fn end_at(
         &mut self,
         comparison: &Comparison<'_>,
         line: &[u8],
-        behind: &[u8],
+        following: &[u8],
     ) -> Result<Replay, AllocError>
         requires passed { HasPassed self.old.state.lines comparison.now }
-        requires first { text_lines comparison.now.left.now ≡ line.now ∷ text_lines behind.now }
-        requires shorter { length behind.now < length comparison.now.left.now }
+        requires first { text_lines comparison.now.left.now ≡ line.now ∷ text_lines following.now }
+        requires shorter { length following.now < length comparison.now.left.now }
         requires other { IsReadAs line.now reading.Other }
         ensures { IfOk result (IsReplayed self.old.setting (lines_seen self.old comparison.now)) }
     {
         self.is_lawful();
         if !self.says_ending(line)? {
-            Ok(Replay::Apart(comparison.lines()))
-        } else if behind.is_empty() {
-            Ok(Replay::Whole(comparison.events()))
+            Ok(Replay::Diverged(comparison.lines()))
+        } else if following.is_empty() {
+            Ok(Replay::Complete(comparison.events()))
         } else {
-            Ok(Replay::Apart(comparison.lines() + 1))
+            Ok(Replay::Diverged(comparison.lines() + 1))
         }
     }
 
-    // Whether a line says how the run ends. What is left to do may have been done then.
+    // Returns whether a line reports how the run ends. May make a step.
     fn says_ending(&mut self, line: &[u8]) -> Result<bool, AllocError>
         ensures { IfOk result (λ b. Decides b (SaysEnding self.old.setting self.old.state line.now)) }
     {
@@ -152,7 +152,7 @@ impl<'s> World<'s> {
         }
     }
 
-    // Whether nothing is left to do. If something is, that may have been done.
+    // Returns whether no side has anything left to do. May make a step.
     fn is_quiet(&mut self) -> Result<bool, AllocError>
         ensures { IfOk result (λ b. b ≡ is_quiet self.old.setting self.old.state) }
     {
@@ -163,7 +163,7 @@ impl<'s> World<'s> {
         }
     }
 
-    // Whether a side has nothing to do. If it has something, that may have been done.
+    // Returns whether a side has nothing to do. May make a step.
     fn is_quiet_at(&mut self, side: Side) -> Result<bool, AllocError>
         ensures says { IfOk result (λ b. b ≡ is_quiet_at self.old.setting self.old.state side) }
         ensures same { IfOk result (λ b. b ≡ true → self.new ≡ self.old) }
@@ -175,8 +175,8 @@ impl<'s> World<'s> {
         }
     }
 
-    // Whether a side has something to do, but as many events as it may have. If it has something to
-    // do and fewer events, that has been done.
+    // Returns whether a side has something to do, but has reached its limit of events. If it has not
+    // reached the limit, its step was made.
     fn is_spent(&mut self, side: Side) -> Result<bool, AllocError>
         ensures { IfOk result (λ b. Decides b (EndsAs self.old.setting self.old.state (at_limit side))) }
     {
@@ -187,7 +187,7 @@ impl<'s> World<'s> {
         }
     }
 
-    // The script is valid, and the limit no greater than a limit may be.
+    // Shows that the script is valid, and that the limit is at most the greatest limit.
     fn is_small(&self)
         ensures valid { IsValid self.now.setting.schema self.now.setting.script }
         ensures small { self.now.setting.limit ≤ most_events }

@@ -27,7 +27,7 @@ loop-i-preserved c =
     record {
       knows = subst P (sym (ap statements split ∙ said_last (take i readings) x)) (c.in_ok-reached.ensures.knows before c.loop-i.invariant.knows);
       gains = Gains-at_more (λ (f : Finding). IsBrokenAt schema readings f) readings i x _ _ _ c.loop-i-test.true c.loop-i.invariant.gains
-          (subst QX c.index-readings-i.is (subst QP c.line_place-place.ensures (subst QA c.lines_behind-after.ensures (c.in_ok-reached.ensures.gains before c.loop-i.invariant.knows))));
+          (subst QX c.index-readings-i.is (subst QP c.line_place-place.ensures (subst QA c.lines_after-after.ensures (c.in_ok-reached.ensures.gains before c.loop-i.invariant.knows))));
     }
 
 pub returns : goal.returns

@@ -23,4 +23,4 @@ returns-clause-gains c before k =
 pub returns-clause-knows : goal.returns-clause-knows
 returns-clause-knows c before k =
     let R : Option MessageRow → Type 0 = λ o. option_map standing_in c.context_of.result ≡ standing_by o c.args.statement.now in
-    c.behind.ensures c.args.schema.now before k (subst R (c.message_of-message.ensures c.args.schema.now c.requires) c.context_of.ensures)
+    c.following.ensures c.args.schema.now before k (subst R (c.message_of-message.ensures c.args.schema.now c.requires) c.context_of.ensures)

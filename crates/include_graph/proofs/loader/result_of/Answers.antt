@@ -11,7 +11,7 @@ use Rattle.include_graph.specs.Load.{IsAnswer, IsGood}
 use Rattle.include_graph.proofs.Loaded.{Laws, clean_of, trees, the_program, a_program, bear, broken_are}
 use Rattle.include_graph.proofs.loader.result_of.Goals as goal
 
--- what is found, told of the keys and the files themselves
+-- the findings are those on the keys and the files themselves
 same : (count : ℕ) (found : List Finding) (keys keys' : List (List ℕ)) (files files' : List ReachedFile) → keys ≡ keys' → files ≡ files' → ((f : Finding) → Contains found f ↔ ((n : ℕ) × IsFoundOf count keys files n f)) → (f : Finding) → Contains found f ↔ ((n : ℕ) × IsFoundOf count keys' files' n f)
 same count found keys keys' files files' a b h f =
     subst (λ ks. Contains found f ↔ ((n : ℕ) × IsFoundOf count ks files' n f)) a

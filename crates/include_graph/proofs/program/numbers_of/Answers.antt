@@ -13,7 +13,7 @@ use Rattle.include_graph.proofs.program.numbers_of.Goals.{in-File+in_ok-push, in
 more : (targets : List Target) (i : ℕ) (d : Target) → i < length targets → numbers_of (take (i + 1) targets) ≡ numbers_of (take i targets) ++ numbers_of (get_or targets i d ∷ [])
 more targets i d within = ap numbers_of (take_more targets i d within) ∙ filter_map-append number_of (take i targets) (get_or targets i d ∷ [])
 
--- a target that is no file has no number
+-- a target that is not a file has no number
 no_number : (t : Target) → ((number : ℕ) → ¬ (t ≡ File number)) → numbers_of (t ∷ []) ≡ []
 no_number Nothing none = refl
 no_number LeftOut none = refl

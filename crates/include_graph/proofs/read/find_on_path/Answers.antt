@@ -35,7 +35,7 @@ parts path i d within =
 
 pub loop-directory-init : goal.loop-directory-init
 loop-directory-init g c = record {
-  none = no_reads (g.F.Files.told (files_of c.args.files.now)) (reads_of c.args.files.now) (λ files. ◌≡◌ {A = Option (List ℕ)} None None) (λ files. refl);
+  none = no_reads (g.F.Files.known (files_of c.args.files.now)) (reads_of c.args.files.now) (λ files. ◌≡◌ {A = Option (List ℕ)} None None) (λ files. refl);
   names = no_names (Contains []) (reads_of c.args.files.now);
   told = refl;
   count = omega arith;
@@ -64,8 +64,8 @@ returns-in_default g c =
     let old = reads_of c.args.files.now in
     let mid = reads_of c.loop-directory.files in
     let new = reads_of c.read.new.self in
-    let told = g.F.Files.told (files_of c.args.files.now) in
-    let again = g.F.Files.told (files_of c.loop-directory.files) in
+    let told = g.F.Files.known (files_of c.args.files.now) in
+    let again = g.F.Files.known (files_of c.loop-directory.files) in
     let found = c.in_ok-found.found in
     let file : FoundFile = record { name = c.in_ok-name.name; found = found } in
     let whole : before ++ d ∷ after ≡ texts path = parts path i item c.loop-directory-test.true in
@@ -99,8 +99,8 @@ loop-directory-preserved g c =
     let old = reads_of c.args.files.now in
     let mid = reads_of c.loop-directory.files in
     let new = reads_of c.read.new.self in
-    let told = g.F.Files.told (files_of c.args.files.now) in
-    let again = g.F.Files.told (files_of c.loop-directory.files) in
+    let told = g.F.Files.known (files_of c.args.files.now) in
+    let again = g.F.Files.known (files_of c.loop-directory.files) in
     let found = c.in_ok-found.found in
     let front : before ++ d ∷ [] ≡ texts (take (i + 1) path) = sym (more path i item c.loop-directory-test.true) in
     let once = subst (AllPairs (λ one other. one ≢ other)) (sym (parts path i item c.loop-directory-test.true)) c.requires.directories in
@@ -125,7 +125,7 @@ pub returns-clause-first : goal.returns-clause-first
 returns-clause-first g c =
     let key = c.args.key.now in
     let path = c.args.path.now in
-    let told = g.F.Files.told (files_of c.args.files.now) in
+    let told = g.F.Files.known (files_of c.args.files.now) in
     subst (λ (ds : List (Bor (List ℕ))). ForReads told (reads_of c.args.files.now) (reads_of c.loop-directory.files) (λ files. name_on_path files (texts ds) key ≡ None))
     (take_all c.loop-directory.directory-index path c.loop-directory-test.false) c.loop-directory.invariant.none
 

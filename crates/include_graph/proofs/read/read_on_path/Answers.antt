@@ -11,7 +11,7 @@ use Rattle.include_graph.specs.Sources.{name_on_path}
 use Rattle.include_graph.proofs.Readings.{source_absent, source_found}
 use Rattle.include_graph.proofs.read.read_on_path.Goals as goal
 
--- the first file of the key, told of the key in other words and of what it is
+-- the first file of the key is that of an equal key
 module _ {told : Option FileMap} {old new : List ReadEntry} (path : List (List ℕ)) (text key : List ℕ) (first which : Option FoundFile) (is_key : text ≡ key) (is : first ≡ which) where
   first_is : ForReads told old new (λ files. IsFirstOnPath files path text first) → ForReads told old new (λ files. IsFirstOnPath files path key which)
   first_is h = subst (λ k. ForReads told old new (λ files. IsFirstOnPath files path k which)) is_key (subst (λ (o : Option FoundFile). ForReads told old new (λ files. IsFirstOnPath files path text o)) is h)

@@ -19,4 +19,4 @@ returns-clause-source g c =
     let Q : FileMap → Type 0 = λ files. IsSource c.args.number key files (Some word) source in
     for_each P Q
     (λ files held. of_word c.args.number key word files found source (c.in_ok-from_slice.ensures.ok ∙ c.as_bytes.ensures.value) c.in_ok-content.ensures held)
-    (one_read (g.F.Files.told (files_of c.args.files.now)) word MOST_BYTES found c.in_ok-found.ensures.logged c.in_ok-found.ensures.small c.in_ok-found.ensures.held)
+    (one_read (g.F.Files.known (files_of c.args.files.now)) word MOST_BYTES found c.in_ok-found.ensures.logged c.in_ok-found.ensures.small c.in_ok-found.ensures.held)

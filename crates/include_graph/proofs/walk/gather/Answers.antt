@@ -26,4 +26,4 @@ returns-clause-gathered g c =
     let Q : FileMap → Type 0 = λ m. IsGathered (record { files = m; words = words; path = path }) c.len.result list reached in
     for_each P Q
     (λ m read. record { first = first; firsts = firsts; words = has_words; counted = counted; read = on_whole_path m words path list reached read })
-    (subst (λ ds. ForReads (g.F.Files.told (files_of c.args.files.now)) (reads_of c.args.files.now) (reads_of c.walk.new.files) (λ m. AreRead (record { files = m; words = words; path = ds }) list reached)) searched c.in_ok-files.ensures.read)
+    (subst (λ ds. ForReads (g.F.Files.known (files_of c.args.files.now)) (reads_of c.args.files.now) (reads_of c.walk.new.files) (λ m. AreRead (record { files = m; words = words; path = ds }) list reached)) searched c.in_ok-files.ensures.read)

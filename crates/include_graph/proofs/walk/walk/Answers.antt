@@ -28,8 +28,8 @@ files-init g c =
     let P : FileMap → Type 0 = λ files. AreReached (record { files = files; words = words; path = path }) list [] in
     record {
       walking = subst (λ (fs : List ReachedFile). Walking words list fs) none (walk_start words list (map (λ (f : Bor (List ℕ)). f.now) c.args.firsts.now) c.requires.words c.requires.keys);
-      reached = subst (λ (fs : List ReachedFile). ForReads (g.F.Files.told (files_of c.args.files.now)) (reads_of c.args.files.now) (reads_of c.args.files.now) (λ files. AreReached (record { files = files; words = words; path = path }) list fs)) none
-          (no_reads (g.F.Files.told (files_of c.args.files.now)) (reads_of c.args.files.now) P (λ files. none_reached (record { files = files; words = words; path = path }) list));
+      reached = subst (λ (fs : List ReachedFile). ForReads (g.F.Files.known (files_of c.args.files.now)) (reads_of c.args.files.now) (reads_of c.args.files.now) (λ files. AreReached (record { files = files; words = words; path = path }) list fs)) none
+          (no_reads (g.F.Files.known (files_of c.args.files.now)) (reads_of c.args.files.now) P (λ files. none_reached (record { files = files; words = words; path = path }) list));
       names = no_names _ (reads_of c.args.files.now);
       told = refl;
       count = omega arith;
@@ -113,7 +113,7 @@ files-preserved g c =
     let old = reads_of c.args.files.now in
     let mid = reads_of c.files.files in
     let end = reads_of c.read_key.new.files in
-    let told = g.F.Files.told (files_of c.args.files.now) in
+    let told = g.F.Files.known (files_of c.args.files.now) in
     let word : option_copied c.copied-word.result ≡ word_of words key =
     ap option_copied c.copied-word.ensures ∙ (copied_is c.args.firsts.now c.len-number.result c.get.result c.get.ensures.lookup.3 ∙ (ap (slice_get firsts) again ∙ first_word words c.args.keys.now.keys list w.grown.further firsts n key c.requires.keys w.grown.begins w.grown.once at)) in
     let source = c.in_ok-source.source in

@@ -10,10 +10,10 @@ use Rattle.include_graph.proofs.walk.walk.Given as goal
 abbrev pub invariant-files : goal.invariant-files
 invariant-files g l = record {
   walking : Walking (map string_bytes l.words) l.keys.keys l.reached.items;
-  reached : ForReads (g.F.Files.told (files_of l.fn.files)) (reads_of l.fn.files) (reads_of l.files)
+  reached : ForReads (g.F.Files.known (files_of l.fn.files)) (reads_of l.fn.files) (reads_of l.files)
       (λ files. AreReached (record { files = files; words = map string_bytes l.words; path = map (λ d. d.now) l.path }) l.keys.keys l.reached.items);
   names : HaveNames (λ name. IsBefore l.keys.keys (length l.reached.items) (key_of name)) (reads_of l.fn.files) (reads_of l.files);
-  told : g.F.Files.told (files_of l.files) ≡ g.F.Files.told (files_of l.fn.files);
+  told : g.F.Files.known (files_of l.files) ≡ g.F.Files.known (files_of l.fn.files);
   count : g.F.Files.faults (files_of l.fn.files) ≤ g.F.Files.faults (files_of l.files);
 }
 

@@ -6,7 +6,7 @@ use Rattle.ipdl_top.specs.FileViews.{FileViews, ForMap, steady}
 use Rattle.ipdl_cli.proofs.Statuses.{usage_alone}
 use Rattle.ipdl_cli.proofs.edge.exit_code_of.Goals as goal
 
--- what follows of all that is seen
+-- what follows from all that is seen
 for_each_seen : (told : Option FileMap) (P Q : FileViews → Type 0) → ((seen : FileViews) → P seen → Q seen) → ForMap told P → ForMap told Q
 for_each_seen None P Q to (seen, h) = (seen, to seen h)
 for_each_seen (Some told) P Q to h = to (steady told) h
@@ -16,7 +16,7 @@ returns-clause-usage g c = λ is. c.ipdl.ensures.usage (usage_alone c.ipdl.resul
 
 pub returns-clause-answer : goal.returns-clause-answer
 returns-clause-answer g c =
-    for_each_seen (g.F.Files.told c.args.files.now.files) _ _ (λ seen outcome. record { status = c.ipdl.result; outcome = outcome; ends = c.from.ensures ∙ c.code.ensures }) c.ipdl.ensures.answer
+    for_each_seen (g.F.Files.known c.args.files.now.files) _ _ (λ seen outcome. record { status = c.ipdl.result; outcome = outcome; ends = c.from.ensures ∙ c.code.ensures }) c.ipdl.ensures.answer
 
 pub returns-clause-no_command : goal.returns-clause-no_command
 returns-clause-no_command g c = λ none.

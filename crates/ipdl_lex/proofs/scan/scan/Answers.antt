@@ -9,14 +9,14 @@ returns-in_err-found-clause-fault c =
     let p = err_from_is_err_and c.from_residual.result c.from_residual.ensures.1 in
     rw (p.1, p.2) (inr fault)
 
-pub behind_piece-here-requires-clause-line : goal.behind_piece-here-requires-clause-line
-behind_piece-here-requires-clause-line c =
+pub after_piece-here-requires-clause-line : goal.after_piece-here-requires-clause-line
+after_piece-here-requires-clause-line c =
     let small = Reaches-small c.args.file c.args.text.now _ _ _ c.loop-rest.invariant in
     let fits = c.in_ok-found.ensures.front.fits in
     omega (arith, c.split_at.ensures.front_len)
 
-pub behind_piece-here-requires-clause-column : goal.behind_piece-here-requires-clause-column
-behind_piece-here-requires-clause-column c =
+pub after_piece-here-requires-clause-column : goal.after_piece-here-requires-clause-column
+after_piece-here-requires-clause-column c =
     let small = Reaches-small c.args.file c.args.text.now _ _ _ c.loop-rest.invariant in
     let fits = c.in_ok-found.ensures.front.fits in
     omega (arith, c.split_at.ensures.front_len)
@@ -25,7 +25,7 @@ pub loop-rest-preserved : goal.loop-rest-preserved
 loop-rest-preserved c =
     let found = c.in_ok-found.ensures in
     let parts = c.split_at.ensures in
-    Reaches-next c.args.file c.args.text.now _ _ _ _ _ c.loop-rest.invariant found.front found.short _ _ _ _ parts.front parts.back c.in_ok-keep.ensures c.behind_piece-here.ensures
+    Reaches-next c.args.file c.args.text.now _ _ _ _ _ c.loop-rest.invariant found.front found.short _ _ _ _ parts.front parts.back c.in_ok-keep.ensures c.after_piece-here.ensures
 
 pub returns-clause-tokens : goal.returns-clause-tokens
 returns-clause-tokens c =

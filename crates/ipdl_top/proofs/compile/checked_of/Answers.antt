@@ -11,4 +11,4 @@ returns c =
     let listed = c.in_ok-listed.listed in
     IfOk-weaker c.loaded_checked.result _ _
     (λ checked found given lists answer held.
-    of_loaded given lists word c.args.loaded listed checked answer c.requires.good (subst (λ (number : ℕ). IsListed lists word number listed) c.number_behind.ensures (c.in_ok-listed.ensures lists held)) found) c.loaded_checked.ensures
+    of_loaded given lists word c.args.loaded listed checked answer c.requires.good (subst (λ (number : ℕ). IsListed lists word number listed) c.number_after.ensures (c.in_ok-listed.ensures lists held)) found) c.loaded_checked.ensures

@@ -5,7 +5,8 @@ use Rattle.include_graph.specs.Keys.{AreFileWords}
 use Rattle.ipdl_base.specs.Outside.{FileMap}
 use Rattle.ipdl_top.specs.FileViews.{steady}
 use Rattle.ipdl_top.specs.Gen.{case_files, case_path, files_of, holder_name, script_name}
-use Rattle.ipdl_top.specs.Sources.{AreNamedFound, NamedView, case_named, named_view, program_named}
+use Rattle.ipdl_top.specs.CommandFiles.{NamedView, case_named, program_named}
+use Rattle.ipdl_top.specs.FilesFound.{AreNamedFound, named_view}
 use Rattle.ipdl_top.specs.declared.generation.CaseFiles.{CaseFiles}
 use Rattle.ipdl_top.proofs.generation.read_case.Goals as goal
 

@@ -17,7 +17,7 @@ returns-in-Ok-write_answer g c =
     let Relays = g.Q.Relay.Gives c.args.relay.now in
     let words = map string_bytes c.args.words.now in
     let answer = c.in-Ok.answer in
-    let told = g.F.Files.told (files_of c.args.files.now) in
+    let told = g.F.Files.known (files_of c.args.files.now) in
     let old = reads_of c.args.files.now in
     let new = reads_of c.answer_to.new.files in
     let out : Writing = record { old = g.O.Sink.written c.args.out.now; new = g.O.Sink.written c.write_answer.new.out } in

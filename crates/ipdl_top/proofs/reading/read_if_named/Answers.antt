@@ -10,7 +10,7 @@ use Rattle.ipdl_top.proofs.reading.read_if_named.Goals as goal
 
 pub returns-in-Some-clause-reads : goal.returns-in-Some-clause-reads
 returns-in-Some-clause-reads g c =
-    let told = g.F.Files.told (files_of c.args.files.now) in
+    let told = g.F.Files.known (files_of c.args.files.now) in
     let old = reads_of c.args.files.now in
     let new = reads_of c.read.new.self in
     let limit = c.args.limit in

@@ -3,9 +3,9 @@ use Rattle.file_log.specs.Recorded.{reads_of}
 use Rattle.file_log.proofs.Between.{failed_ends, then_ends}
 use Rattle.include_graph.specs.Load.{IsAnswer}
 use Rattle.ipdl_base.specs.Outside.{FileMap, IsHeldWithin}
-use Rattle.ipdl_top.specs.CommandAnswer.{given_by}
+use Rattle.ipdl_top.specs.CommandFiles.{given_by}
 use Rattle.ipdl_top.specs.FileViews.{FileViews}
-use Rattle.ipdl_top.specs.Sources.{AreNamedFound, named_view}
+use Rattle.ipdl_top.specs.FilesFound.{AreNamedFound, named_view}
 use Rattle.ipdl_top.specs.Steps.{IsHeld}
 use Rattle.ipdl_top.proofs.Views.{of_parts}
 use Rattle.ipdl_top.proofs.reading.read_named.Goals as goal

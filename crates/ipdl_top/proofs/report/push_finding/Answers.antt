@@ -5,7 +5,7 @@ use Rattle.ipdl_base.specs.Rules.{rule_line}
 use Rattle.ipdl_top.specs.Report.{finding_line}
 use Rattle.ipdl_top.proofs.report.push_finding.Goals as goal
 
--- a line behind a name
+-- a line after a name
 abbrev line_of : List ℕ → List ℕ → List ℕ → List ℕ → List ℕ
 line_of name line column rule = name ++ codes ":" ++ line ++ codes ":" ++ column ++ codes ": " ++ rule ++ codes "\n"
 

@@ -4,7 +4,7 @@ use Rattle.std.specs.Option.{option_copied}
 use Rattle.findings.proofs.Gathers.{Gains-of_none, Gains-of_some}
 use Rattle.findings.specs.Gains.{Gains}
 use Rattle.ipdl_base.specs.declared.finding.Finding.{Finding}
-use Rattle.proto_rules.specs.Broken as protocols
+use Rattle.program_schema.specs.ProtocolRules as protocols
 use Rattle.sync_list.specs.Broken as sync
 use Rattle.sync_list.specs.declared.list.Section.{Section}
 use Rattle.type_rules.specs.Broken as types

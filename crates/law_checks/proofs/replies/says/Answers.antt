@@ -4,7 +4,7 @@ use Rattle.law_checks.specs.Asking.{is_asked}
 use Rattle.history_reading.specs.EndReadings.{end_view}
 use Rattle.history_reading.specs.Views.{packet_view}
 use Rattle.history_reading.specs.SentPacket.{is_said}
-use Rattle.law_checks.proofs.Maps.{any_mapped}
+use Rattle.reading_checks.proofs.Maps.{any_mapped}
 use Rattle.law_checks.proofs.replies.says.Goals as goal
 
 pub returns : goal.returns

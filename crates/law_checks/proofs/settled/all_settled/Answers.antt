@@ -2,7 +2,7 @@ use Rattle.std.proofs.Common.{sym, ap, ◌∙◌}
 use Rattle.std.specs.List.{list_all}
 use Rattle.history_reading.specs.EndReading.{is_settled_packet}
 use Rattle.history_reading.specs.Views.{packet_view}
-use Rattle.law_checks.proofs.Maps.{all_mapped}
+use Rattle.reading_checks.proofs.Maps.{all_mapped}
 use Rattle.law_checks.proofs.settled.all_settled.Goals as goal
 
 pub returns : goal.returns

@@ -9,6 +9,6 @@ abbrev pub invariant-loop-index : goal.invariant-loop-index
 invariant-loop-index l = record {
   reads : reading_view l.reading ≡ read l.schema (take l.index l.lines);
   pass :
-      each_line (λ before line behind. passes l.law l.schema (read l.schema before) line behind) (take l.index l.lines) (drop l.index l.lines)
-      ≡ each_line (λ before line behind. passes l.law l.schema (read l.schema before) line behind) [] l.lines;
+      each_line (λ before line following. passes l.law l.schema (read l.schema before) line following) (take l.index l.lines) (drop l.index l.lines)
+      ≡ each_line (λ before line following. passes l.law l.schema (read l.schema before) line following) [] l.lines;
 }

@@ -5,4 +5,4 @@ use Rattle.order_checks.proofs.effect_lines.count_effects.Given as goal
 
 -- the lines so far are effects
 abbrev pub invariant-loop-index : goal.invariant-loop-index
-invariant-loop-index l = prefix_len is_effect_line l.behind ≡ l.index + prefix_len is_effect_line (drop l.index l.behind)
+invariant-loop-index l = prefix_len is_effect_line l.following ≡ l.index + prefix_len is_effect_line (drop l.index l.following)

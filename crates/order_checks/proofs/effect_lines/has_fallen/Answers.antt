@@ -1,7 +1,7 @@
 use Rattle.std.proofs.Common.{SFits, w32, rules, to_z-of_z, Bool, true, if◌then◌else◌, ap, sym, ◌∙◌}
 use Rattle.std.specs.List.{list_any}
 use Rattle.history_reading.specs.Settled.{is_fall_of}
-use Rattle.law_checks.proofs.Maps.{any_mapped}
+use Rattle.reading_checks.proofs.Maps.{any_mapped}
 use Rattle.order_checks.specs.EffectTests.{whats}
 use Rattle.order_checks.proofs.effect_lines.has_fallen.Goals as goal
 

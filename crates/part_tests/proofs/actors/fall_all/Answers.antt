@@ -1,7 +1,7 @@
 use Rattle.std.proofs.Common.{[], append-nil, rules}
 use Rattle.actor_tree.specs.Tree.{IsTree}
 use Rattle.actor_tree.specs.Fall.{Falls}
-use Rattle.actor_tree.specs.Falling.{living}
+use Rattle.actor_tree.specs.SubtreeFall.{living}
 use Rattle.part_tests.proofs.actors.fall_all.Goals as goal
 
 pub returns : goal.returns

@@ -1,7 +1,7 @@
 use Rattle.std.proofs.Common.{◌≡◌, List, ◌++◌, length}
 use Rattle.actor_tree.specs.declared.actor.Actor.{Actor}
 use Rattle.actor_tree.specs.Fall.{Falls, post_order}
-use Rattle.actor_tree.specs.Falling.{living, root_of, tree_of}
+use Rattle.actor_tree.specs.SubtreeFall.{living, root_of, tree_of}
 use Rattle.part_tests.proofs.actors.fall_all.Given as goal
 
 abbrev pub invariant-loop-actor : goal.invariant-loop-actor

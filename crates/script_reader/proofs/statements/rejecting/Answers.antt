@@ -1,5 +1,5 @@
 use Rattle.script_reader.proofs.Refused.{refuses_on}
-use Rattle.script_reader.proofs.StatementForms.{same_name, not_behind, only_reject}
+use Rattle.script_reader.proofs.StatementForms.{same_name, not_after, only_reject}
 use Rattle.std.proofs.Common.{[]}
 use Rattle.script_reader.specs.Grammar.{name, message}
 use Rattle.script_reader.proofs.statements.rejecting.Goals as goal
@@ -12,5 +12,5 @@ pub returns-in_err-message-clause-stops : goal.returns-in_err-message-clause-sto
 returns-in_err-message-clause-stops c =
     refuses_on _ _ _ _ c.from_residual-in_err-message.ensures.1
     (λ none. only_reject c.args.reader.now (c.is_empty.ensures.not c.if-is_empty.false)
-    (λ n m. not_behind name same_name c.in_ok-name.name c.args.reader.now c.name.new.self c.in_ok-name.ensures.read (message m) [] (none m []) n))
+    (λ n m. not_after name same_name c.in_ok-name.name c.args.reader.now c.name.new.self c.in_ok-name.ensures.read (message m) [] (none m []) n))
     c.in_err-message.ensures.stops

@@ -1,5 +1,5 @@
 use Rattle.script_reader.proofs.Refused.{refuses_on}
-use Rattle.script_reader.proofs.StatementForms.{same_name, same_call, same_arguments, not_behind, not_whole, only_resolve, mark_no_name}
+use Rattle.script_reader.proofs.StatementForms.{same_name, same_call, same_arguments, not_after, not_whole, only_resolve, mark_no_name}
 use Rattle.std.proofs.Common.{[]}
 use Rattle.script_reader.specs.Grammar.{name, arguments, call}
 use Rattle.script_reader.proofs.statements.resolving.Goals as goal
@@ -24,13 +24,13 @@ pub returns-in_err-call-clause-stops : goal.returns-in_err-call-clause-stops
 returns-in_err-call-clause-stops c =
     refuses_on _ _ _ _ c.from_residual-in_err-call.ensures.1
     (λ none. only_resolve c.args.reader.now (λ vs h. c.is_at.ensures.not c.if-is_at.false h.0 h.1)
-    (λ n d. not_behind name same_name c.in_ok-name.name c.args.reader.now c.name.new.self c.in_ok-name.ensures.read (call d) [] (none d []) n))
+    (λ n d. not_after name same_name c.in_ok-name.name c.args.reader.now c.name.new.self c.in_ok-name.ensures.read (call d) [] (none d []) n))
     c.in_err-call.ensures.stops
 
 pub returns-in_err-end-2-clause-stops : goal.returns-in_err-end-2-clause-stops
 returns-in_err-end-2-clause-stops c =
     refuses_on _ _ _ _ c.from_residual-in_err-end-2.ensures.1
     (λ some. only_resolve c.args.reader.now (λ vs h. c.is_at.ensures.not c.if-is_at.false h.0 h.1)
-    (λ n d. not_behind name same_name c.in_ok-name.name c.args.reader.now c.name.new.self c.in_ok-name.ensures.read (call d) []
+    (λ n d. not_after name same_name c.in_ok-name.name c.args.reader.now c.name.new.self c.in_ok-name.ensures.read (call d) []
     (not_whole call same_call c.in_ok-call.call c.name.new.self c.call.new.reader c.in_ok-call.ensures.read some d) n))
     c.in_err-end-2.ensures.stops

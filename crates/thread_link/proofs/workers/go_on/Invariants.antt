@@ -1,8 +1,8 @@
 use Rattle.thread_link.proofs.workers.go_on.Given as goal
-use Rattle.world_core.specs.Halves.{FitsBehind}
+use Rattle.world_core.specs.Halves.{FitsAfter}
 
 abbrev pub ghost-own : goal.ghost-own
 ghost-own g a = g.at
 
 abbrev pub invariant-loop : goal.invariant-loop
-invariant-loop g l = (goal.iterator-loop g).can_next l.iterator' × (goal.iterator-loop g).is_finite l.iterator' × FitsBehind g.at.0 g.at.1 g.at.2 l.half
+invariant-loop g l = (goal.iterator-loop g).can_next l.iterator' × (goal.iterator-loop g).is_finite l.iterator' × FitsAfter g.at.0 g.at.1 g.at.2 l.half

@@ -2,13 +2,13 @@ use Rattle.std.proofs.Common.{[], ◌∷◌, arith}
 use Rattle.tree_reader.specs.Machine.{take, attributed, more_attributed}
 use Rattle.tree_reader.specs.declared.symbol.Symbol.TheVariants.{CloseBracket}
 use Rattle.tree_reader.proofs.AttributeForms.{next_goes_on, bracketed_read, next_turns, last_turns}
-use Rattle.tree_reader.proofs.Turns.{fewer_of, turns, stops_behind, stops_on}
+use Rattle.tree_reader.proofs.Turns.{fewer_of, turns, stops_after, stops_on}
 use Rattle.tree_reader.proofs.attributes.bracketed.Goals as goal
 
 pub returns-in_err-attribute-2-clause-stops : goal.returns-in_err-attribute-2-clause-stops
 returns-in_err-attribute-2-clause-stops c =
     stops_on c.from_residual-in_err-attribute-2.result _ (attributed ∷ []) c.args.reader.now c.from_residual-in_err-attribute-2.ensures.1
-    (stops_behind (attributed ∷ []) (attributed ∷ []) c.args.reader.now c.skips.new.self c.in_err-attribute-2.field-0.0
+    (stops_after (attributed ∷ []) (attributed ∷ []) c.args.reader.now c.skips.new.self c.in_err-attribute-2.field-0.0
     (next_turns c.args.reader.now c.attributes.reader c.skips.new.self c.attributes.invariant.turns (c.skips.ensures.yes c.attributes-test.true))
     c.in_err-attribute-2.ensures.stops)
 
@@ -27,7 +27,7 @@ pub returns-in_err-take-clause-stops : goal.returns-in_err-take-clause-stops
 returns-in_err-take-clause-stops c =
     let kept = c.skips.ensures.not c.attributes-test.false in
     stops_on c.from_residual-in_err-take.result _ (attributed ∷ []) c.args.reader.now c.from_residual-in_err-take.ensures.1
-    (stops_behind (attributed ∷ []) (take CloseBracket ∷ []) c.args.reader.now c.skips.new.self c.in_err-take.field-0.0
+    (stops_after (attributed ∷ []) (take CloseBracket ∷ []) c.args.reader.now c.skips.new.self c.in_err-take.field-0.0
     (last_turns c.args.reader.now c.attributes.reader c.skips.new.self c.attributes.invariant.turns kept.0 kept.1)
     c.in_err-take.ensures.stops)
 

@@ -3,7 +3,7 @@ use Rattle.tree_reader.specs.declared.symbol.Symbol.TheVariants.{Colon}
 use Rattle.tree_reader.specs.Symbols.{first_symbol}
 use Rattle.tree_reader.specs.Machine.{Form, take, messaged}
 use Rattle.tree_reader.specs.Reading.{Stops, IsSectioned, direction_of}
-use Rattle.tree_reader.proofs.Turns.{thrown, stops_behind, stops_before}
+use Rattle.tree_reader.proofs.Turns.{thrown, stops_after, stops_before}
 use Rattle.tree_reader.proofs.BodyTurns.{section_word, section_colon, more_sections, all_sections, sections_close}
 use Rattle.tree_reader.proofs.body.sections.Goals as goal
 
@@ -11,7 +11,7 @@ pub returns-in_err-take-clause-stops : goal.returns-in_err-take-clause-stops
 returns-in_err-take-clause-stops c =
     let is : direction_of (first_symbol c.sections.reader) ≡ Some c.in-Some.direction = search rules in
     thrown c.from_residual.result c.in_err-take.field-0.0 (λ e. (f : Form) → IsSectioned f c.args.reader.now → Stops (f ∷ []) c.args.reader.now e) c.from_residual.ensures.1
-    (λ f may. stops_behind (f ∷ []) (take Colon ∷ messaged c.in-Some.direction ∷ []) c.args.reader.now c.pass.new.self c.in_err-take.field-0.0
+    (λ f may. stops_after (f ∷ []) (take Colon ∷ messaged c.in-Some.direction ∷ []) c.args.reader.now c.pass.new.self c.in_err-take.field-0.0
     (section_word c.in-Some.direction c.pass.result f c.args.reader.now c.sections.reader c.pass.new.self is (c.sections.invariant.goes f may) c.pass.ensures)
     (stops_before (take Colon ∷ []) (messaged c.in-Some.direction ∷ []) c.pass.new.self c.in_err-take.field-0.0 c.in_err-take.ensures.stops))
 
@@ -26,7 +26,7 @@ pub returns-in_err-section_messages-clause-stops :
 returns-in_err-section_messages-clause-stops c =
     let is : direction_of (first_symbol c.sections.reader) ≡ Some c.in-Some.direction = search rules in
     thrown c.from_residual-in_err-section_messages.result c.in_err-section_messages.field-0.0 (λ e. (f : Form) → IsSectioned f c.args.reader.now → Stops (f ∷ []) c.args.reader.now e) c.from_residual-in_err-section_messages.ensures.1
-    (λ f may. stops_behind (f ∷ []) (messaged c.in-Some.direction ∷ []) c.args.reader.now c.take.new.self c.in_err-section_messages.field-0.0
+    (λ f may. stops_after (f ∷ []) (messaged c.in-Some.direction ∷ []) c.args.reader.now c.take.new.self c.in_err-section_messages.field-0.0
     (section_colon c.in-Some.direction c.pass.result f c.args.reader.now c.sections.reader c.pass.new.self c.take.new.self is (c.sections.invariant.goes f may) c.pass.ensures c.in_ok-take.ensures.turns)
     c.in_err-section_messages.ensures.stops)
 

@@ -5,10 +5,10 @@ use Rattle.tree_reader.specs.Ending as ending
 use Rattle.tree_reader.specs.Machine.{Form, take, typed, componented}
 use Rattle.tree_reader.specs.Reading.{Stops}
 use Rattle.tree_reader.proofs.FieldForms.{components_more, components_closed, component_turned, component_stops, components_turn, more_is_some}
-use Rattle.tree_reader.proofs.Turns.{thrown, turns, stops_behind}
+use Rattle.tree_reader.proofs.Turns.{thrown, turns, stops_after}
 use Rattle.tree_reader.proofs.fields.components.Goals as goal
 
--- what is read behind the `{` of a union
+-- what is read after the `{` of a union
 abbrev all_forms : List Form
 all_forms = typed 4 ending.Semicolon ∷ componented ∷ []
 
@@ -34,7 +34,7 @@ pub returns-in_err-take-clause-stops : goal.returns-in_err-take-clause-stops
 returns-in_err-take-clause-stops c =
     let brace = c.skips.ensures.yes c.components-test.false in
     thrown c.from_residual-in_err-take.result c.in_err-take.field-0.0 (Stops all_forms c.args.reader.now) c.from_residual-in_err-take.ensures.1
-    (stops_behind all_forms (take Semicolon ∷ []) c.args.reader.now c.skips.new.self c.in_err-take.field-0.0 (components_turn all_forms c.args.reader.now c.components.reader c.skips.new.self brace c.components.invariant.turns)
+    (stops_after all_forms (take Semicolon ∷ []) c.args.reader.now c.skips.new.self c.in_err-take.field-0.0 (components_turn all_forms c.args.reader.now c.components.reader c.skips.new.self brace c.components.invariant.turns)
     c.in_err-take.ensures.stops)
 
 pub returns-clause-read : goal.returns-clause-read

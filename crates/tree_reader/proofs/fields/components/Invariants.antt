@@ -7,7 +7,7 @@ use Rattle.tree_reader.specs.Machine.{typed, componented}
 use Rattle.tree_reader.specs.Reading.{Turns}
 use Rattle.tree_reader.proofs.fields.components.Given as goal
 
--- whatever goes on from here makes a list with the components so far
+-- whatever follows from here makes a list together with the components so far
 abbrev pub invariant-components : goal.invariant-components
 invariant-components l = record {
   read : (more : List TypeSpec) (to : List Token) → components more l.reader to → components (l.all.items ++ more) l.fn.reader to;

@@ -4,7 +4,7 @@ use Rattle.tree_reader.specs.declared.symbol.Symbol.TheVariants.{Semicolon}
 use Rattle.tree_reader.specs.Machine.{take, fielded}
 use Rattle.tree_reader.specs.Reading.{Stops}
 use Rattle.tree_reader.proofs.FieldForms.{fields_more, fields_closed, field_turned, field_stops, fields_turn}
-use Rattle.tree_reader.proofs.Turns.{thrown, turns, stops_behind}
+use Rattle.tree_reader.proofs.Turns.{thrown, turns, stops_after}
 use Rattle.tree_reader.proofs.fields.fields.Goals as goal
 
 pub returns-in_err-field-clause-stops : goal.returns-in_err-field-clause-stops
@@ -28,7 +28,7 @@ pub returns-in_err-take-clause-stops : goal.returns-in_err-take-clause-stops
 returns-in_err-take-clause-stops c =
     let brace = c.skips.ensures.yes c.fields-test.false in
     thrown c.from_residual-in_err-take.result c.in_err-take.field-0.0 (Stops (fielded ∷ []) c.args.reader.now) c.from_residual-in_err-take.ensures.1
-    (stops_behind (fielded ∷ []) (take Semicolon ∷ []) c.args.reader.now c.skips.new.self c.in_err-take.field-0.0 (fields_turn c.args.reader.now c.fields.reader c.skips.new.self brace c.fields.invariant.turns) c.in_err-take.ensures.stops)
+    (stops_after (fielded ∷ []) (take Semicolon ∷ []) c.args.reader.now c.skips.new.self c.in_err-take.field-0.0 (fields_turn c.args.reader.now c.fields.reader c.skips.new.self brace c.fields.invariant.turns) c.in_err-take.ensures.stops)
 
 pub returns-clause-read : goal.returns-clause-read
 returns-clause-read c =

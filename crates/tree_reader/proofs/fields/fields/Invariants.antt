@@ -6,7 +6,7 @@ use Rattle.tree_reader.specs.Machine.{fielded}
 use Rattle.tree_reader.specs.Reading.{Turns}
 use Rattle.tree_reader.proofs.fields.fields.Given as goal
 
--- whatever goes on from here makes a list with the fields so far
+-- whatever follows from here makes a list together with the fields so far
 abbrev pub invariant-fields : goal.invariant-fields
 invariant-fields l = record {
   read : (more : List Param) (to : List Token) → fields more l.reader to → fields (l.all.items ++ more) l.fn.reader to;

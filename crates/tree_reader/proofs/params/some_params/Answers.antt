@@ -2,12 +2,12 @@ use Rattle.std.proofs.Common.{[], ◌∷◌}
 use Rattle.tree_reader.specs.Machine.{take, one_param, more_parameters}
 use Rattle.tree_reader.specs.declared.symbol.Symbol.TheVariants.{CloseParen}
 use Rattle.tree_reader.proofs.Turns.{turns, stops_before}
-use Rattle.tree_reader.proofs.ParamTurns.{thrown_behind, read_comma, read_more, read_close, params_all}
+use Rattle.tree_reader.proofs.ParamTurns.{thrown_after, read_comma, read_more, read_close, params_all}
 use Rattle.tree_reader.proofs.params.some_params.Goals as goal
 
 pub returns-in_err-param-2-clause-stops : goal.returns-in_err-param-2-clause-stops
 returns-in_err-param-2-clause-stops c =
-    thrown_behind c.from_residual-in_err-param-2.result c.in_err-param-2.field-0.0 (one_param ∷ more_parameters ∷ []) (one_param ∷ more_parameters ∷ []) c.args.reader.now c.skips.new.self c.from_residual-in_err-param-2.ensures.1
+    thrown_after c.from_residual-in_err-param-2.result c.in_err-param-2.field-0.0 (one_param ∷ more_parameters ∷ []) (one_param ∷ more_parameters ∷ []) c.args.reader.now c.skips.new.self c.from_residual-in_err-param-2.ensures.1
     (read_comma c.params.all.items c.args.reader.now c.params.reader c.skips.new.self c.params.invariant (c.skips.ensures.yes c.params-test.true))
     (stops_before (one_param ∷ []) (more_parameters ∷ []) c.skips.new.self c.in_err-param-2.field-0.0 c.in_err-param-2.ensures.stops)
 
@@ -18,7 +18,7 @@ params-preserved c =
 
 pub returns-in_err-take-clause-stops : goal.returns-in_err-take-clause-stops
 returns-in_err-take-clause-stops c =
-    thrown_behind c.from_residual-in_err-take.result c.in_err-take.field-0.0 (one_param ∷ more_parameters ∷ []) (take CloseParen ∷ []) c.args.reader.now c.skips.new.self c.from_residual-in_err-take.ensures.1
+    thrown_after c.from_residual-in_err-take.result c.in_err-take.field-0.0 (one_param ∷ more_parameters ∷ []) (take CloseParen ∷ []) c.args.reader.now c.skips.new.self c.from_residual-in_err-take.ensures.1
     (read_close c.params.all.items c.args.reader.now c.params.reader c.skips.new.self c.params.invariant (c.skips.ensures.not c.params-test.false))
     c.in_err-take.ensures.stops
 

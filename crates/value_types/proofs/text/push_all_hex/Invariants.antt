@@ -3,7 +3,7 @@ use Rattle.std.specs.List.{flat_map}
 use Rattle.value_types.specs.ValueText.{hex_byte}
 use Rattle.value_types.proofs.text.push_all_hex.Given as goal
 
--- what is written and the text of what is left
+-- what is written, followed by the text of what is left, is the whole
 abbrev pub invariant-loop-byte : goal.invariant-loop-byte
 invariant-loop-byte l =
     l.out.items ++ flat_map hex_byte (drop l.byte-index l.bytes) ≡ l.fn.out.items ++ flat_map hex_byte l.bytes

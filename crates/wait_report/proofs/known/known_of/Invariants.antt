@@ -2,7 +2,7 @@ use Rattle.std.proofs.Common.{◌≡◌, ◌+◌, true, length}
 use Rattle.wait_report.specs.Least as least
 use Rattle.wait_report.proofs.known.known_of.Given as goal
 
--- what is known is so, and the top protocol can be built
+-- what is known is true, and the top protocol can be built
 abbrev pub invariant-loop-users : goal.invariant-loop-users
 invariant-loop-users l = record {
   size : length l.types.items ≡ length l.schema.types;
@@ -11,6 +11,6 @@ invariant-loop-users l = record {
   live : least.is_built l.built.items l.top ≡ true;
 }
 
--- each round makes less of what is left
+-- each round leaves less to be found
 abbrev pub decreases-loop-users : goal.decreases-loop-users
 decreases-loop-users l = least.known l.types.items + least.unbuilt l.built.items

@@ -2,7 +2,7 @@ use Rattle.std.proofs.Common.{◌≡◌, ◌≤◌, min, drop}
 use Rattle.wait_report.specs.Least as least
 use Rattle.wait_report.proofs.least.least_in.Given as goal
 
--- the least of those so far and of the others is the least of all
+-- the least value so far and that of the remaining components give the least of all
 abbrev pub invariant-loop-component : goal.invariant-loop-component
 invariant-loop-component l = record {
   few : l.bytes ≤ least.too_many;

@@ -2,7 +2,7 @@ use Rattle.std.proofs.Common.{◌≡◌, ◌+◌, ◌≤◌, min, drop}
 use Rattle.wait_report.specs.Least as least
 use Rattle.wait_report.proofs.least.sum_of.Given as goal
 
--- the sum of those so far and of the others is the sum of all
+-- the sum so far and that of the remaining fields give the sum of all
 abbrev pub invariant-loop-field : goal.invariant-loop-field
 invariant-loop-field l = record {
   few : l.bytes ≤ least.too_many;

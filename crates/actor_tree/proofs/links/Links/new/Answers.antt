@@ -1,6 +1,6 @@
 use Rattle.std.proofs.Common.{Some, cond, int_eq, ap, ◌∙◌, ◌++◌, ◌∷◌, []}
 use Rattle.std.specs.Map.{lookup}
-use Rattle.actor_tree.specs.Links.{top_id}
+use Rattle.ipdl_base.specs.Sides.{top_id}
 use Rattle.actor_tree.proofs.TreeLemmas.{starts}
 use Rattle.actor_tree.proofs.links.Links.new.Goals as goal
 

@@ -7,7 +7,7 @@ use Rattle.channel_model.specs.Answers.{handled_resolver}
 use Rattle.channel_model.specs.Events.{handled}
 use Rattle.channel_model.specs.Outputs.{AnsweredRequest}
 use Rattle.end_parts.specs.Replies.{answered_of}
-use Rattle.end_parts.proofs.RenamingLemmas.{request-small}
+use Rattle.end_steps.proofs.RenamingLemmas.{request-small}
 use Rattle.channel_core.specs.Answers.{AnswerGives}
 use Rattle.channel_core.specs.ResolverReplies.{IsReplyCheck, stack_answered}
 use Rattle.channel_core.specs.EndView.{EndView}

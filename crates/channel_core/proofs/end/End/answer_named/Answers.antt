@@ -10,7 +10,7 @@ use Rattle.channel_core.specs.ResolverReplies.{IsReplyCheck}
 use Rattle.channel_core.specs.EndView.{EndView}
 use Rattle.channel_core.specs.Steps.{MayAnswer}
 use Rattle.channel_core.proofs.ActLemmas.{acted_end}
-use Rattle.channel_core.proofs.AnsweringLemmas.{answered-behind, found-fits, found-kept, IsFound, kept-answers, kept-small-behind}
+use Rattle.channel_core.proofs.AnsweringLemmas.{answered-following, found-fits, found-kept, IsFound, kept-answers, kept-small-following}
 use Rattle.channel_core.proofs.EndViews.{seen_in}
 use Rattle.channel_core.proofs.MadeLemmas.{seen_as}
 use Rattle.channel_core.proofs.TrackLemmas.{tracks_begin}
@@ -24,8 +24,8 @@ check_reply-requires-clause-small c =
     let vs = option_map (λ vs. plain_values vs.now) c.args.values in
     let q = option_map (λ q. answered_of q.now) c.as_ref.result in
     let may : MayAnswer v (kept name number) vs = subst (λ (s : EndView). MayAnswer s (kept name number) vs) (sym c.self.view_is) c.requires in
-    let used : q ≡ option_map resolver_answered (resolver_used v.end (kept name number)) = answered-behind c.as_ref.result c.named_request-request.result c.as_ref.ensures.value ∙ c.named_request-request.ensures in
-    kept-small-behind v name number c.as_ref.result vs c.self.inside.out may used c.self.invariant
+    let used : q ≡ option_map resolver_answered (resolver_used v.end (kept name number)) = answered-following c.as_ref.result c.named_request-request.result c.as_ref.ensures.value ∙ c.named_request-request.ensures in
+    kept-small-following v name number c.as_ref.result vs c.self.inside.out may used c.self.invariant
 
 pub push_answer-answer-requires-clause-fits : goal.push_answer-answer-requires-clause-fits
 push_answer-answer-requires-clause-fits c =
@@ -35,7 +35,7 @@ push_answer-answer-requires-clause-fits c =
     let vs = option_map (λ vs. plain_values vs.now) c.args.values in
     let q = option_map (λ q. answered_of q.now) c.as_ref.result in
     let may : MayAnswer v (kept name number) vs = subst (λ (s : EndView). MayAnswer s (kept name number) vs) (sym c.self.view_is) c.requires in
-    let used : q ≡ option_map resolver_answered (resolver_used v.end (kept name number)) = answered-behind c.as_ref.result c.named_request-request.result c.as_ref.ensures.value ∙ c.named_request-request.ensures in
+    let used : q ≡ option_map resolver_answered (resolver_used v.end (kept name number)) = answered-following c.as_ref.result c.named_request-request.result c.as_ref.ensures.value ∙ c.named_request-request.ensures in
     let is : IsReplyCheck v number q vs c.in-Ok.check = subst (λ (s : EndView). IsReplyCheck s number q vs c.in-Ok.check) (sym c.self.view_is) c.in-Ok.ensures in
     let found : IsFound v (kept name number) vs c.in-Ok.check = found-kept v name number q vs c.in-Ok.check c.self.inside.out may used c.self.invariant is in
     found-fits v (kept name number) vs c.in-Ok.check found
@@ -48,7 +48,7 @@ invariant_of-self c =
     let vs = option_map (λ vs. plain_values vs.now) c.args.values in
     let q = option_map (λ q. answered_of q.now) c.as_ref.result in
     let may : MayAnswer v (kept name number) vs = subst (λ (s : EndView). MayAnswer s (kept name number) vs) (sym c.self.view_is) c.requires in
-    let used : q ≡ option_map resolver_answered (resolver_used v.end (kept name number)) = answered-behind c.as_ref.result c.named_request-request.result c.as_ref.ensures.value ∙ c.named_request-request.ensures in
+    let used : q ≡ option_map resolver_answered (resolver_used v.end (kept name number)) = answered-following c.as_ref.result c.named_request-request.result c.as_ref.ensures.value ∙ c.named_request-request.ensures in
     let is : IsReplyCheck v number q vs c.in-Ok.check = subst (λ (s : EndView). IsReplyCheck s number q vs c.in-Ok.check) (sym c.self.view_is) c.in-Ok.ensures in
     let found : IsFound v (kept name number) vs c.in-Ok.check = found-kept v name number q vs c.in-Ok.check c.self.inside.out may used c.self.invariant is in
     let out = c.self.inside.out in
@@ -65,7 +65,7 @@ returns c =
     let vs = option_map (λ vs. plain_values vs.now) c.args.values in
     let q = option_map (λ q. answered_of q.now) c.as_ref.result in
     let may : MayAnswer v (kept name number) vs = subst (λ (s : EndView). MayAnswer s (kept name number) vs) (sym c.self.view_is) c.requires in
-    let used : q ≡ option_map resolver_answered (resolver_used v.end (kept name number)) = answered-behind c.as_ref.result c.named_request-request.result c.as_ref.ensures.value ∙ c.named_request-request.ensures in
+    let used : q ≡ option_map resolver_answered (resolver_used v.end (kept name number)) = answered-following c.as_ref.result c.named_request-request.result c.as_ref.ensures.value ∙ c.named_request-request.ensures in
     let is : IsReplyCheck v number q vs c.in-Ok.check = subst (λ (s : EndView). IsReplyCheck s number q vs c.in-Ok.check) (sym c.self.view_is) c.in-Ok.ensures in
     let found : IsFound v (kept name number) vs c.in-Ok.check = found-kept v name number q vs c.in-Ok.check c.self.inside.out may used c.self.invariant is in
     let out = c.self.inside.out in

@@ -4,7 +4,7 @@ use Rattle.ipdl_base.specs.declared.message.Message.{Message}
 use Rattle.ipdl_base.specs.Plain.{plain_values}
 use Rattle.ipdl_base.specs.Sound.{message_of}
 use Rattle.channel_model.specs.Outputs.{is_open}
-use Rattle.end_parts.specs.Refusals.{answer_refusal_by}
+use Rattle.end_steps.specs.Refusals.{answer_refusal_by}
 use Rattle.end_parts.specs.Replies.{answered_of}
 use Rattle.channel_core.specs.ResolverReplies.{IsReplyCheck}
 use Rattle.channel_core.specs.EndView.{EndView}

@@ -8,7 +8,7 @@ use Rattle.ipdl_base.specs.declared.message.Message.{Message}
 use Rattle.ipdl_base.specs.Plain.{plain_message}
 use Rattle.channel_model.specs.Events as event
 use Rattle.channel_model.specs.Outputs.{line_at}
-use Rattle.channel_model.specs.Takes.{holding_of}
+use Rattle.channel_model.specs.Takes.{deferral_context_of}
 use Rattle.end_parts.specs.OutputView.{with_line}
 use Rattle.channel_core.specs.declared.answers.TakeAnswer.TheVariants as answer
 use Rattle.channel_core.specs.NextItems.{IsNextDrop}
@@ -25,7 +25,7 @@ pub take_message-message-requires : goal.take_message-message-requires
 take_message-message-requires c =
     let v = seen_in c.self.inside in
     let n : IsNextDrop v c.args.id c.args.packet = subst (λ (s : EndView). IsNextDrop s c.args.id c.args.packet) (sym c.self.view_is) c.requires.next in
-    let h : c.args.holding.now ≡ holding_of v.end = c.requires.holding ∙ ap (λ (s : EndView). holding_of s.end) (sym c.self.view_is) in
+    let h : c.args.holding.now ≡ deferral_context_of v.end = c.requires.holding ∙ ap (λ (s : EndView). deferral_context_of s.end) (sym c.self.view_is) in
     (taken_message v c.args.holding.now c.self.inside.pending.items n.m n.m refl h n.is_next).0
 
 pub invariant_of-self-2 : goal.invariant_of-self-2
@@ -35,7 +35,7 @@ invariant_of-self-2 c =
     let mid = c.reserve.new.self in
     let id = c.args.id in
     let n : IsNextDrop v id c.args.packet = subst (λ (s : EndView). IsNextDrop s id c.args.packet) (sym c.self.view_is) c.requires.next in
-    let hold : c.args.holding.now ≡ holding_of v.end = c.requires.holding ∙ ap (λ (s : EndView). holding_of s.end) (sym c.self.view_is) in
+    let hold : c.args.holding.now ≡ deferral_context_of v.end = c.requires.holding ∙ ap (λ (s : EndView). deferral_context_of s.end) (sym c.self.view_is) in
     let items = c.take_message-message.new.pending.items in
     let taken : Message = c.take_message-message.result in
     let plain : plain_message taken ≡ n.m = (taken_message v c.args.holding.now c.self.inside.pending.items n.m taken refl hold n.is_next).1 c.take_message-message.ensures.taken in
@@ -61,7 +61,7 @@ returns c =
     let mid = c.reserve.new.self in
     let id = c.args.id in
     let n : IsNextDrop v id c.args.packet = subst (λ (s : EndView). IsNextDrop s id c.args.packet) (sym c.self.view_is) c.requires.next in
-    let hold : c.args.holding.now ≡ holding_of v.end = c.requires.holding ∙ ap (λ (s : EndView). holding_of s.end) (sym c.self.view_is) in
+    let hold : c.args.holding.now ≡ deferral_context_of v.end = c.requires.holding ∙ ap (λ (s : EndView). deferral_context_of s.end) (sym c.self.view_is) in
     let items = c.take_message-message.new.pending.items in
     let taken : Message = c.take_message-message.result in
     let plain : plain_message taken ≡ n.m = (taken_message v c.args.holding.now c.self.inside.pending.items n.m taken refl hold n.is_next).1 c.take_message-message.ensures.taken in

@@ -16,9 +16,9 @@ use Rattle.pending_queue.specs.Compression.{is_request}
 use Rattle.pending_queue.proofs.PlainLemmas.{is_request-plain}
 use Rattle.channel_model.specs.Events as event
 use Rattle.channel_model.specs.Outputs.{line_at}
-use Rattle.channel_model.specs.Takes.{dispatch_of, holding_of}
+use Rattle.channel_model.specs.Takes.{dispatch_of, deferral_context_of}
 use Rattle.channel_model.specs.ValueActors.{nulled}
-use Rattle.end_parts.specs.BuiltActors.{with_built}
+use Rattle.end_steps.specs.BuiltActors.{with_built}
 use Rattle.end_parts.specs.OutputView.{with_line}
 use Rattle.channel_core.specs.declared.answers.Handling.{Handling}
 use Rattle.channel_core.specs.declared.answers.TakeAnswer.TheVariants as answer
@@ -47,7 +47,7 @@ take_message-message-requires c =
     let shown : Values = plain_values c.args.shown in
     let built = c.args.built in
     let n : IsNextHandling v shown built = subst (λ (s : EndView). IsNextHandling s shown built) (sym c.self.view_is) c.requires.next in
-    let hold : c.args.holding.now ≡ holding_of v.end = c.requires.holding ∙ ap (λ (s : EndView). holding_of s.end) (sym c.self.view_is) in
+    let hold : c.args.holding.now ≡ deferral_context_of v.end = c.requires.holding ∙ ap (λ (s : EndView). deferral_context_of s.end) (sym c.self.view_is) in
     (taken_message v c.args.holding.now c.self.inside.pending.items n.m n.m refl hold n.is_next).0
 
 pub unreachable-requires : goal.unreachable-requires
@@ -56,7 +56,7 @@ unreachable-requires c =
     let shown : Values = plain_values c.args.shown in
     let built = c.args.built in
     let n : IsNextHandling v shown built = subst (λ (s : EndView). IsNextHandling s shown built) (sym c.self.view_is) c.requires.next in
-    let hold : c.args.holding.now ≡ holding_of v.end = c.requires.holding ∙ ap (λ (s : EndView). holding_of s.end) (sym c.self.view_is) in
+    let hold : c.args.holding.now ≡ deferral_context_of v.end = c.requires.holding ∙ ap (λ (s : EndView). deferral_context_of s.end) (sym c.self.view_is) in
     let taken : Message = c.take_message-message.result in
     let plain : plain_message taken ≡ n.m = (taken_message v c.args.holding.now c.self.inside.pending.items n.m taken refl hold n.is_next).1 c.take_message-message.ensures.taken in
     let none : None ≡ message_of v.schema taken.number = ap (λ r. option_map (λ x. x.now) r) (sym c.in_default.is) ∙ c.message.ensures in
@@ -69,7 +69,7 @@ handling_of-requires c =
     let shown : Values = plain_values c.args.shown in
     let built = c.args.built in
     let n : IsNextHandling v shown built = subst (λ (s : EndView). IsNextHandling s shown built) (sym c.self.view_is) c.requires.next in
-    let hold : c.args.holding.now ≡ holding_of v.end = c.requires.holding ∙ ap (λ (s : EndView). holding_of s.end) (sym c.self.view_is) in
+    let hold : c.args.holding.now ≡ deferral_context_of v.end = c.requires.holding ∙ ap (λ (s : EndView). deferral_context_of s.end) (sym c.self.view_is) in
     let taken : Message = c.take_message-message.result in
     let plain : plain_message taken ≡ n.m = (taken_message v c.args.holding.now c.self.inside.pending.items n.m taken refl hold n.is_next).1 c.take_message-message.ensures.taken in
     sym (is_request-plain taken.body) ∙ ap is_request (ap (λ (m : Message). m.body) plain ∙ n.handled.body)
@@ -83,7 +83,7 @@ invariant_of-self-2 c =
     let out = c.self.inside.out in
     let mid = c.reserve_and_build.new.out in
     let actors = c.reserve_and_build.new.tree in
-    let hold : c.args.holding.now ≡ holding_of v.end = c.requires.holding ∙ ap (λ (s : EndView). holding_of s.end) (sym c.self.view_is) in
+    let hold : c.args.holding.now ≡ deferral_context_of v.end = c.requires.holding ∙ ap (λ (s : EndView). deferral_context_of s.end) (sym c.self.view_is) in
     let items = c.take_message-message.new.pending.items in
     let taken : Message = c.take_message-message.result in
     let plain : plain_message taken ≡ n.m = (taken_message v c.args.holding.now c.self.inside.pending.items n.m taken refl hold n.is_next).1 c.take_message-message.ensures.taken in
@@ -120,7 +120,7 @@ returns c =
     let out = c.self.inside.out in
     let mid = c.reserve_and_build.new.out in
     let actors = c.reserve_and_build.new.tree in
-    let hold : c.args.holding.now ≡ holding_of v.end = c.requires.holding ∙ ap (λ (s : EndView). holding_of s.end) (sym c.self.view_is) in
+    let hold : c.args.holding.now ≡ deferral_context_of v.end = c.requires.holding ∙ ap (λ (s : EndView). deferral_context_of s.end) (sym c.self.view_is) in
     let items = c.take_message-message.new.pending.items in
     let taken : Message = c.take_message-message.result in
     let plain : plain_message taken ≡ n.m = (taken_message v c.args.holding.now c.self.inside.pending.items n.m taken refl hold n.is_next).1 c.take_message-message.ensures.taken in

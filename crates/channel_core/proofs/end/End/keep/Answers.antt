@@ -7,7 +7,7 @@ use Rattle.channel_model.specs.Events as event
 use Rattle.channel_model.specs.Outputs.{line_at}
 use Rattle.channel_model.specs.Sends.{may_act}
 use Rattle.end_parts.specs.OutputView.{with_line}
-use Rattle.end_parts.specs.Renamings.{with_destroyed}
+use Rattle.end_steps.specs.Renamings.{with_destroyed}
 use Rattle.channel_core.specs.Room.{waits_in}
 use Rattle.channel_core.specs.EndView.{EndView}
 use Rattle.channel_core.specs.Steps.{IsStep}

@@ -8,7 +8,7 @@ use Rattle.channel_model.specs.Outputs.{line_at}
 use Rattle.channel_model.specs.Sends.{may_act}
 use Rattle.end_parts.specs.NameContents.{holds_at, shown_id}
 use Rattle.end_parts.specs.OutputView.{with_line}
-use Rattle.end_parts.specs.Renamings.{with_destroyed}
+use Rattle.end_steps.specs.Renamings.{with_destroyed}
 use Rattle.channel_core.specs.EndView.{EndView}
 use Rattle.channel_core.specs.Steps.{IsStep}
 use Rattle.channel_core.proofs.ActLemmas.{acted_end, CodeNames, name-steps, names-acts}

@@ -12,8 +12,8 @@ use Rattle.channel_model.specs.Events as event
 use Rattle.channel_model.specs.Outputs.{is_open, line_at}
 use Rattle.channel_model.specs.Parts.{IsReturn}
 use Rattle.channel_model.specs.Returns.{dispatch_on_top}
-use Rattle.end_parts.specs.AnswerPackets.{owed_by_return, owed_if, IsPacketFor}
-use Rattle.end_parts.specs.Deletions.{HasDeleted}
+use Rattle.end_steps.specs.AnswerPackets.{owed_by_return, owed_if, IsPacketFor}
+use Rattle.end_steps.specs.Deletions.{HasDeleted}
 use Rattle.end_parts.specs.OutputView.{with_line}
 use Rattle.end_parts.specs.StackDetails.{dispatch_entry}
 use Rattle.channel_core.specs.EndView.{EndView}

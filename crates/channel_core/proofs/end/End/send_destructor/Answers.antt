@@ -3,13 +3,14 @@ use Rattle.std.proofs.lemmas.Int.{to_z-of_z}
 use mir.Val.{SFits, to_z, of_z}
 use mir.Syntax.{w32}
 use Rattle.ipdl_base.specs.declared.line.What.{What}
-use Rattle.ipdl_base.specs.Plain.{plain_values, plain_message}
+use Rattle.ipdl_base.specs.Plain.{plain_message}
 use Rattle.value_types.proofs.Boxes.{fits}
 use Rattle.channel_model.specs.Events as event
 use Rattle.channel_model.specs.Outputs.{line_at}
 use Rattle.end_parts.specs.declared.packet.Packet.{Packet}
-use Rattle.end_parts.specs.Deletions.{HasDeleted}
+use Rattle.end_steps.specs.Deletions.{HasDeleted}
 use Rattle.end_parts.specs.OutputView.{with_line, with_packet}
+use Rattle.end_steps.specs.SentRequests.{values_carried}
 use Rattle.channel_core.specs.Answers.{SendGives}
 use Rattle.channel_core.specs.declared.answers.SendAnswer.TheVariants.{Sent}
 use Rattle.channel_core.specs.EndView.{EndView}
@@ -22,26 +23,26 @@ use Rattle.channel_core.proofs.SendLemmas.{CodePosts, posted_view}
 use Rattle.channel_core.proofs.TrackLemmas.{tracks_begin}
 use Rattle.channel_core.proofs.end.End.send_destructor.Goals as goal
 
-pub make_ready-ready-requires-clause-fits : goal.make_ready-ready-requires-clause-fits
-make_ready-ready-requires-clause-fits c =
+pub make_frame-frame-requires-clause-fits : goal.make_frame-frame-requires-clause-fits
+make_frame-frame-requires-clause-fits c =
     let v = seen_in c.self.inside in
-    let m = plain_message c.args.message.now in
-    let vs = plain_values c.args.values.now in
+    let m = plain_message c.args.message in
+    let vs = values_carried m.body in
     let a : IsAccepted v c.args.row.now m vs None = subst (λ (s : EndView). IsAccepted s c.args.row.now m vs None) (sym c.self.view_is) c.requires.accepted in
-    (fits v.schema c.args.message.now).0 (request_fits v c.args.row.now m vs None a c.self.invariant.kept)
+    (fits v.schema c.args.message).0 (request_fits v c.args.row.now m vs None a c.self.invariant.kept)
 
 pub delete_by-requires : goal.delete_by-requires
 delete_by-requires c =
     let v = seen_in c.self.inside in
     let out = c.self.inside.out in
     let row = c.args.row.now in
-    let m = plain_message c.args.message.now in
-    let vs = plain_values c.args.values.now in
-    let mid = c.make_ready-ready.new.out in
+    let m = plain_message c.args.message in
+    let vs = values_carried m.body in
+    let mid = c.make_frame-frame.new.out in
     let a : IsAccepted v row m vs None = subst (λ (s : EndView). IsAccepted s row m vs None) (sym c.self.view_is) c.requires.accepted in
     let p : CodePosts v row m vs out mid c.push_line.new.self c.put.new.self = record {
       same = c.in-Ok.ensures.same ∙ rw c.in-Ok.ensures.same refl;
-      says = c.push_line.ensures ∙ ap (λ (w : What). with_line mid (line_at v.end.side w)) c.in-Ok.ensures.ready.line;
+      says = c.push_line.ensures ∙ ap (λ (w : What). with_line mid (line_at v.end.side w)) c.send_line-what.ensures;
       posts = c.put.ensures ∙ ap (λ (q : Packet). with_packet c.push_line.new.self q) c.in-Ok.ensures.ready.frame ∙ ap (λ b. posted_view b v.schema m c.push_line.new.self) (sym (bare v row m vs None a c.self.invariant.sound c.requires.delete).lazy);
     } in
     fall_room v row m vs out mid c.push_line.new.self c.put.new.self p c.in-Ok.ensures.lines c.self.invariant
@@ -51,9 +52,9 @@ invariant_of-self-2 c =
     let v = seen_in c.self.inside in
     let out = c.self.inside.out in
     let row = c.args.row.now in
-    let m = plain_message c.args.message.now in
-    let vs = plain_values c.args.values.now in
-    let mid = c.make_ready-ready.new.out in
+    let m = plain_message c.args.message in
+    let vs = values_carried m.body in
+    let mid = c.make_frame-frame.new.out in
     let posted = c.put.new.self in
     let paid = c.delete_by.new.out in
     let actors = c.delete_by.new.tree in
@@ -62,7 +63,7 @@ invariant_of-self-2 c =
     let a : IsAccepted v row m vs None = subst (λ (s : EndView). IsAccepted s row m vs None) (sym c.self.view_is) c.requires.accepted in
     let p : CodePosts v row m vs out mid c.push_line.new.self posted = record {
       same = c.in-Ok.ensures.same ∙ rw c.in-Ok.ensures.same refl;
-      says = c.push_line.ensures ∙ ap (λ (w : What). with_line mid (line_at v.end.side w)) c.in-Ok.ensures.ready.line;
+      says = c.push_line.ensures ∙ ap (λ (w : What). with_line mid (line_at v.end.side w)) c.send_line-what.ensures;
       posts = c.put.ensures ∙ ap (λ (q : Packet). with_packet c.push_line.new.self q) c.in-Ok.ensures.ready.frame ∙ ap (λ b. posted_view b v.schema m c.push_line.new.self) (sym (bare v row m vs None a c.self.invariant.sound c.requires.delete).lazy);
     } in
     let d : CodeDeletes v row m vs out mid c.push_line.new.self posted paid actors promises = record {
@@ -81,9 +82,9 @@ returns c =
     let v = seen_in c.self.inside in
     let out = c.self.inside.out in
     let row = c.args.row.now in
-    let m = plain_message c.args.message.now in
-    let vs = plain_values c.args.values.now in
-    let mid = c.make_ready-ready.new.out in
+    let m = plain_message c.args.message in
+    let vs = values_carried m.body in
+    let mid = c.make_frame-frame.new.out in
     let posted = c.put.new.self in
     let paid = c.delete_by.new.out in
     let actors = c.delete_by.new.tree in
@@ -92,7 +93,7 @@ returns c =
     let a : IsAccepted v row m vs None = subst (λ (s : EndView). IsAccepted s row m vs None) (sym c.self.view_is) c.requires.accepted in
     let p : CodePosts v row m vs out mid c.push_line.new.self posted = record {
       same = c.in-Ok.ensures.same ∙ rw c.in-Ok.ensures.same refl;
-      says = c.push_line.ensures ∙ ap (λ (w : What). with_line mid (line_at v.end.side w)) c.in-Ok.ensures.ready.line;
+      says = c.push_line.ensures ∙ ap (λ (w : What). with_line mid (line_at v.end.side w)) c.send_line-what.ensures;
       posts = c.put.ensures ∙ ap (λ (q : Packet). with_packet c.push_line.new.self q) c.in-Ok.ensures.ready.frame ∙ ap (λ b. posted_view b v.schema m c.push_line.new.self) (sym (bare v row m vs None a c.self.invariant.sound c.requires.delete).lazy);
     } in
     let d : CodeDeletes v row m vs out mid c.push_line.new.self posted paid actors promises = record {

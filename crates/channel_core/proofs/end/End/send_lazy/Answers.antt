@@ -3,12 +3,13 @@ use Rattle.std.proofs.lemmas.Int.{to_z-of_z}
 use mir.Val.{SFits, to_z, of_z}
 use mir.Syntax.{w32}
 use Rattle.ipdl_base.specs.declared.line.What.{What}
-use Rattle.ipdl_base.specs.Plain.{plain_values, plain_message}
+use Rattle.ipdl_base.specs.Plain.{plain_message}
 use Rattle.value_types.proofs.Boxes.{fits}
 use Rattle.channel_model.specs.Events as event
 use Rattle.channel_model.specs.Outputs.{line_at}
 use Rattle.end_parts.specs.declared.packet.Packet.{Packet}
 use Rattle.end_parts.specs.OutputView.{OutputView, with_line, with_lazy}
+use Rattle.end_steps.specs.SentRequests.{values_carried}
 use Rattle.channel_core.specs.Answers.{SendGives}
 use Rattle.channel_core.specs.declared.answers.SendAnswer.TheVariants.{Sent}
 use Rattle.channel_core.specs.EndView.{EndView}
@@ -20,11 +21,11 @@ use Rattle.channel_core.proofs.SendLemmas.{CodePosts, CodeSends, posted_view, re
 use Rattle.channel_core.proofs.TrackLemmas.{tracks_begin}
 use Rattle.channel_core.proofs.end.End.send_lazy.Goals as goal
 
-pub make_ready-ready-requires-clause-fits : goal.make_ready-ready-requires-clause-fits
-make_ready-ready-requires-clause-fits c =
+pub make_frame-frame-requires-clause-fits : goal.make_frame-frame-requires-clause-fits
+make_frame-frame-requires-clause-fits c =
     let v = seen_in c.self.inside in
     let m = plain_message c.args.message in
-    let vs = plain_values c.args.values.now in
+    let vs = values_carried m.body in
     let a : IsAccepted v c.args.row.now m vs None = subst (λ (s : EndView). IsAccepted s c.args.row.now m vs None) (sym c.self.view_is) c.requires.accepted in
     (fits v.schema c.args.message).0 (request_fits v c.args.row.now m vs None a c.self.invariant.kept)
 
@@ -32,7 +33,7 @@ pub await_reply-awaited-requires-clause-room : goal.await_reply-awaited-requires
 await_reply-awaited-requires-clause-room c = λ sync.
     let v = seen_in c.self.inside in
     let m = plain_message c.args.message in
-    let vs = plain_values c.args.values.now in
+    let vs = values_carried m.body in
     let a : IsAccepted v c.args.row.now m vs None = subst (λ (s : EndView). IsAccepted s c.args.row.now m vs None) (sym c.self.view_is) c.requires.accepted in
     wait_room v c.args.row.now m vs None a sync
 
@@ -40,7 +41,7 @@ pub await_reply-awaited-requires-clause-free : goal.await_reply-awaited-requires
 await_reply-awaited-requires-clause-free c =
     let v = seen_in c.self.inside in
     let m = plain_message c.args.message in
-    let vs = plain_values c.args.values.now in
+    let vs = values_carried m.body in
     let a : IsAccepted v c.args.row.now m vs None = subst (λ (s : EndView). IsAccepted s c.args.row.now m vs None) (sym c.self.view_is) c.requires.accepted in
     number_free v c.args.row.now m vs None a c.self.invariant.kept
 
@@ -50,8 +51,8 @@ invariant_of-self-2 c =
     let out = c.self.inside.out in
     let row = c.args.row.now in
     let m = plain_message c.args.message in
-    let vs = plain_values c.args.values.now in
-    let first = c.make_ready-ready.new.out in
+    let vs = values_carried m.body in
+    let first = c.make_frame-frame.new.out in
     let mid = c.reserve_lazy-reserved.new.self in
     let stack = c.await_reply-awaited.new.stack in
     let promises = c.await_reply-awaited.new.promises in
@@ -60,7 +61,7 @@ invariant_of-self-2 c =
     let packets_same : mid.packet_spare ≡ first.packet_spare = ap (λ (g : OutputView). g.packet_spare) c.reserve_lazy-reserved.ensures.same in
     let p : CodePosts v row m vs out mid c.push_line.new.self c.push_lazy.new.self = record {
       same = reserved_both out first mid c.in-Ok.ensures.same c.reserve_lazy-reserved.ensures.same;
-      says = c.push_line.ensures ∙ ap (λ (w : What). with_line mid (line_at v.end.side w)) c.in-Ok.ensures.ready.line;
+      says = c.push_line.ensures ∙ ap (λ (w : What). with_line mid (line_at v.end.side w)) c.in-Ok-line.ensures;
       posts = c.push_lazy.ensures ∙ ap (λ (q : Packet). with_lazy c.push_line.new.self m q) c.in-Ok.ensures.ready.frame ∙ ap (λ b. posted_view b v.schema m c.push_line.new.self) (sym c.requires.lazy);
     } in
     let s : CodeSends v row m vs out mid c.push_line.new.self c.push_lazy.new.self c.owe.new.self stack promises = record {
@@ -81,8 +82,8 @@ returns c =
     let out = c.self.inside.out in
     let row = c.args.row.now in
     let m = plain_message c.args.message in
-    let vs = plain_values c.args.values.now in
-    let first = c.make_ready-ready.new.out in
+    let vs = values_carried m.body in
+    let first = c.make_frame-frame.new.out in
     let mid = c.reserve_lazy-reserved.new.self in
     let stack = c.await_reply-awaited.new.stack in
     let promises = c.await_reply-awaited.new.promises in
@@ -91,7 +92,7 @@ returns c =
     let packets_same : mid.packet_spare ≡ first.packet_spare = ap (λ (g : OutputView). g.packet_spare) c.reserve_lazy-reserved.ensures.same in
     let p : CodePosts v row m vs out mid c.push_line.new.self c.push_lazy.new.self = record {
       same = reserved_both out first mid c.in-Ok.ensures.same c.reserve_lazy-reserved.ensures.same;
-      says = c.push_line.ensures ∙ ap (λ (w : What). with_line mid (line_at v.end.side w)) c.in-Ok.ensures.ready.line;
+      says = c.push_line.ensures ∙ ap (λ (w : What). with_line mid (line_at v.end.side w)) c.in-Ok-line.ensures;
       posts = c.push_lazy.ensures ∙ ap (λ (q : Packet). with_lazy c.push_line.new.self m q) c.in-Ok.ensures.ready.frame ∙ ap (λ b. posted_view b v.schema m c.push_line.new.self) (sym c.requires.lazy);
     } in
     let s : CodeSends v row m vs out mid c.push_line.new.self c.push_lazy.new.self c.owe.new.self stack promises = record {

@@ -12,13 +12,13 @@ use Rattle.nesting_core.specs.declared.frame.Answer.{Answer}
 use Rattle.nesting_core.specs.Plain.{plain_answer}
 use Rattle.channel_model.specs.Events as event
 use Rattle.channel_model.specs.Outputs.{line_at}
-use Rattle.channel_model.specs.Takes.{holding_of, is_awaited, outcome_of, settle_line, settled_entry}
+use Rattle.channel_model.specs.Takes.{deferral_context_of, is_awaited, outcome_of, settle_line, settled_entry}
 use Rattle.channel_model.specs.ValueActors.{received}
 use Rattle.channel_model.proofs.FittingEnds.{taken-fits}
-use Rattle.end_parts.specs.AnswerPackets.{answer_in, IsAnswering}
+use Rattle.end_steps.specs.AnswerPackets.{answer_in, IsAnswering}
 use Rattle.end_parts.specs.CopiedAnswers.{values_of}
 use Rattle.end_parts.specs.OutputView.{with_line}
-use Rattle.end_parts.specs.TakenItems.{with_settling}
+use Rattle.end_steps.specs.TakenItems.{with_settling}
 use Rattle.channel_core.specs.declared.answers.TakeAnswer.TheVariants as answer
 use Rattle.channel_core.specs.NextItems.{values_in, IsNextReply}
 use Rattle.channel_core.specs.EndView.{EndView}
@@ -34,14 +34,14 @@ pub take_message-message-requires : goal.take_message-message-requires
 take_message-message-requires c =
     let v = seen_in c.self.inside in
     let n : IsNextReply v c.args.copy = subst (λ (s : EndView). IsNextReply s c.args.copy) (sym c.self.view_is) c.requires.next in
-    let hold : c.args.holding.now ≡ holding_of v.end = c.requires.holding ∙ ap (λ (s : EndView). holding_of s.end) (sym c.self.view_is) in
+    let hold : c.args.holding.now ≡ deferral_context_of v.end = c.requires.holding ∙ ap (λ (s : EndView). deferral_context_of s.end) (sym c.self.view_is) in
     (taken_message v c.args.holding.now c.self.inside.pending.items n.m n.m refl hold n.is_next).0
 
 pub unreachable-requires : goal.unreachable-requires
 unreachable-requires c =
     let v = seen_in c.self.inside in
     let n : IsNextReply v c.args.copy = subst (λ (s : EndView). IsNextReply s c.args.copy) (sym c.self.view_is) c.requires.next in
-    let hold : c.args.holding.now ≡ holding_of v.end = c.requires.holding ∙ ap (λ (s : EndView). holding_of s.end) (sym c.self.view_is) in
+    let hold : c.args.holding.now ≡ deferral_context_of v.end = c.requires.holding ∙ ap (λ (s : EndView). deferral_context_of s.end) (sym c.self.view_is) in
     let taken : Message = c.take_message-message.result in
     let plain : plain_message taken ≡ n.m = (taken_message v c.args.holding.now c.self.inside.pending.items n.m taken refl hold n.is_next).1 c.take_message-message.ensures.taken in
     let none : None ≡ message_of v.schema taken.number = ap (λ r. option_map (λ x. x.now) r) (sym c.in_default.is) ∙ c.message.ensures in
@@ -53,7 +53,7 @@ pub answer_of-requires : goal.answer_of-requires
 answer_of-requires c =
     let v = seen_in c.self.inside in
     let n : IsNextReply v c.args.copy = subst (λ (s : EndView). IsNextReply s c.args.copy) (sym c.self.view_is) c.requires.next in
-    let hold : c.args.holding.now ≡ holding_of v.end = c.requires.holding ∙ ap (λ (s : EndView). holding_of s.end) (sym c.self.view_is) in
+    let hold : c.args.holding.now ≡ deferral_context_of v.end = c.requires.holding ∙ ap (λ (s : EndView). deferral_context_of s.end) (sym c.self.view_is) in
     let taken : Message = c.take_message-message.result in
     let plain : plain_message taken ≡ n.m = (taken_message v c.args.holding.now c.self.inside.pending.items n.m taken refl hold n.is_next).1 c.take_message-message.ensures.taken in
     answering_plain taken.body (subst IsAnswering (sym (ap (λ (m : Message). m.body) plain)) n.answers)
@@ -62,7 +62,7 @@ pub receive_answer-received-requires : goal.receive_answer-received-requires
 receive_answer-received-requires c =
     let v = seen_in c.self.inside in
     let n : IsNextReply v c.args.copy = subst (λ (s : EndView). IsNextReply s c.args.copy) (sym c.self.view_is) c.requires.next in
-    let hold : c.args.holding.now ≡ holding_of v.end = c.requires.holding ∙ ap (λ (s : EndView). holding_of s.end) (sym c.self.view_is) in
+    let hold : c.args.holding.now ≡ deferral_context_of v.end = c.requires.holding ∙ ap (λ (s : EndView). deferral_context_of s.end) (sym c.self.view_is) in
     let taken : Message = c.take_message-message.result in
     let plain : plain_message taken ≡ n.m = (taken_message v c.args.holding.now c.self.inside.pending.items n.m taken refl hold n.is_next).1 c.take_message-message.ensures.taken in
     let answers : IsAnswering taken.body = answering_plain taken.body (subst IsAnswering (sym (ap (λ (m : Message). m.body) plain)) n.answers) in
@@ -74,7 +74,7 @@ invariant_of-self-2 c =
     let n : IsNextReply v c.args.copy = subst (λ (s : EndView). IsNextReply s c.args.copy) (sym c.self.view_is) c.requires.next in
     let out = c.self.inside.out in
     let mid = c.reserve.new.self in
-    let hold : c.args.holding.now ≡ holding_of v.end = c.requires.holding ∙ ap (λ (s : EndView). holding_of s.end) (sym c.self.view_is) in
+    let hold : c.args.holding.now ≡ deferral_context_of v.end = c.requires.holding ∙ ap (λ (s : EndView). deferral_context_of s.end) (sym c.self.view_is) in
     let items = c.take_message-message.new.pending.items in
     let taken : Message = c.take_message-message.result in
     let plain : plain_message taken ≡ n.m = (taken_message v c.args.holding.now c.self.inside.pending.items n.m taken refl hold n.is_next).1 c.take_message-message.ensures.taken in
@@ -112,7 +112,7 @@ returns c =
     let n : IsNextReply v c.args.copy = subst (λ (s : EndView). IsNextReply s c.args.copy) (sym c.self.view_is) c.requires.next in
     let out = c.self.inside.out in
     let mid = c.reserve.new.self in
-    let hold : c.args.holding.now ≡ holding_of v.end = c.requires.holding ∙ ap (λ (s : EndView). holding_of s.end) (sym c.self.view_is) in
+    let hold : c.args.holding.now ≡ deferral_context_of v.end = c.requires.holding ∙ ap (λ (s : EndView). deferral_context_of s.end) (sym c.self.view_is) in
     let items = c.take_message-message.new.pending.items in
     let taken : Message = c.take_message-message.result in
     let plain : plain_message taken ≡ n.m = (taken_message v c.args.holding.now c.self.inside.pending.items n.m taken refl hold n.is_next).1 c.take_message-message.ensures.taken in

@@ -4,7 +4,7 @@ use Rattle.ipdl_base.specs.declared.kinds.Destroy.{Destroy}
 use Rattle.ipdl_base.specs.declared.line.What.{What}
 use Rattle.channel_model.specs.Events as event
 use Rattle.channel_model.specs.Outputs.{line_at}
-use Rattle.end_parts.specs.Falls.{HasClosed}
+use Rattle.end_steps.specs.Falls.{HasClosed}
 use Rattle.end_parts.specs.OutputView.{OutputView, with_line}
 use Rattle.channel_core.specs.declared.answers.TakeAnswer.TheVariants as answer
 use Rattle.channel_core.specs.declared.end.taking.ItemKind.TheVariants as kind

@@ -8,7 +8,7 @@ use Rattle.name_table.specs.Visible.{Sees}
 use Rattle.name_table.proofs.Seeing.{seen_once}
 use Rattle.name_table.proofs.names.Names.is_candidate.Goals as goal
 
--- what holds of a candidate at the full name under which it is seen
+-- a property of a candidate at the full name under which it is seen
 candidate_at : (program : List Entry) (file : ℕ) (text : List ℕ) (argument : Option (List ℕ)) (d : DeclId) (full : List ℕ) → Sees program file d full → IsCandidate program file text argument d
     → IsNameOf text argument full × ((other place : ℕ) → d ≡ Using other place → ¬ NamesBuiltin program file full)
 candidate_at program file text argument d full s c =

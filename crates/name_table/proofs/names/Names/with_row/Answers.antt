@@ -12,7 +12,7 @@ use Rattle.name_table.proofs.Counting.{Tally, tally_start, tally_miss, tally_fir
 use Rattle.name_table.proofs.names.Names.with_row.Goals as goal
 use Rattle.name_table.proofs.names.Names.with_row.Goals.{then-is_candidate+in-None, then-is_candidate+in-One+else-not-are_one, else-is_candidate}
 
--- a candidate of the row that is none of those before it is found
+-- a candidate of the row that differs from those before it is found
 new_found : (program : List Entry) (file : ℕ) (text : List ℕ) (argument : Option (List ℕ)) (row : List DeclId) (k : ℕ) (d : DeclId)
     → row ≡ listed_under text (declared_from 0 program) → k < length row → d ≡ get_or row k d → IsCandidate program file text argument d
     → ((u : DeclId) → Contains (take k row) u → IsCandidate program file text argument u → AreOne program d u → ⊥) → Finds program file text argument d

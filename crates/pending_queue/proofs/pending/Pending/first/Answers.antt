@@ -1,6 +1,6 @@
 use Rattle.std.proofs.Common.{ap, ◌∙◌, find}
 use Rattle.pending_queue.specs.ArrivedItems.{ArrivedItems}
-use Rattle.pending_queue.specs.Holding.{is_free}
+use Rattle.pending_queue.specs.DeferralContext.{is_free}
 use Rattle.pending_queue.proofs.QueueLemmas.{free_none, free_some}
 use Rattle.pending_queue.proofs.pending.Pending.first.Goals as goal
 

@@ -1,10 +1,10 @@
 use Rattle.std.proofs.Common.{◌≡◌, ◌<◌, sym, ap, ◌∙◌, subst}
-use Rattle.linked_lists.specs.declared.link.Link.{Link}
+use Rattle.linked_lists.specs.declared.link.NodeLink.{NodeLink}
 use Rattle.linked_lists.specs.Chosen.{chosen_keys}
 use Rattle.linked_lists.specs.Chains.{link_of_some}
 use Rattle.pending_queue.specs.declared.node.Chain.TheVariants.{SameClass}
 use Rattle.pending_queue.specs.Classes.{is_class}
-use Rattle.pending_queue.specs.Holding.{is_free}
+use Rattle.pending_queue.specs.DeferralContext.{is_free}
 use Rattle.pending_queue.specs.Queue.{keys_of, queue_item, node_at}
 use Rattle.pending_queue.specs.Walk.{IsAt, rank_of}
 use Rattle.pending_queue.proofs.Walking.{none_free, steps}
@@ -24,7 +24,7 @@ step c =
     let t = is_free c.args.holding.now in
     let keys = chosen_keys (is_class c.args.class) (queue_item q) (keys_of q) in
     let r = steps q c.requires t c.args.class c.in-Some.key (subst (IsAt t (queue_item q) keys) c.in-Some.is c.loop-at.invariant) (sym c.frees.ensures ∙ c.if-frees.false) in
-    let next : (link_of_some (link_of SameClass) (node_at q c.in-Some.key)).next ≡ c.link_at-at.result.next = ap (λ (l : Link). l.next) (sym c.link_at-at.ensures) in
+    let next : (link_of_some (link_of SameClass) (node_at q c.in-Some.key)).next ≡ c.link_at-at.result.next = ap (λ (l : NodeLink). l.next) (sym c.link_at-at.ensures) in
     (subst (IsAt t (queue_item q) keys) next r.0, subst (λ v. rank_of v keys < rank_of c.loop-at.at keys) next (subst (λ v. rank_of (link_of_some (link_of SameClass) (node_at q c.in-Some.key)).next keys < rank_of v keys) (sym c.in-Some.is) r.1))
 
 pub loop-at-smaller : goal.loop-at-smaller

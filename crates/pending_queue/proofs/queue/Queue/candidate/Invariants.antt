@@ -1,6 +1,6 @@
 use Rattle.linked_lists.specs.Chosen.{chosen_keys}
 use Rattle.pending_queue.specs.Classes.{is_class}
-use Rattle.pending_queue.specs.Holding.{is_free}
+use Rattle.pending_queue.specs.DeferralContext.{is_free}
 use Rattle.pending_queue.specs.Queue.{keys_of, queue_item}
 use Rattle.pending_queue.specs.Walk.{rank_of, IsAt}
 use Rattle.pending_queue.proofs.queue.Queue.candidate.Given as goal

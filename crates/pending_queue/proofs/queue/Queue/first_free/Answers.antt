@@ -1,6 +1,6 @@
 use Rattle.std.proofs.Common.{ap, ◌∙◌}
 use Rattle.pending_queue.specs.declared.class.Class.TheVariants.{Asynchronous, SyncNot, SyncInside, Highest}
-use Rattle.pending_queue.specs.Holding.{is_free}
+use Rattle.pending_queue.specs.DeferralContext.{is_free}
 use Rattle.pending_queue.specs.Queue.{node_at, earlier_of}
 use Rattle.pending_queue.proofs.Walking.{earliest_is, of_class_at}
 use Rattle.pending_queue.proofs.queue.Queue.first_free.Goals as goal

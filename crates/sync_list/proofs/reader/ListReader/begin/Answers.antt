@@ -16,7 +16,7 @@ returns-clause-ok c forms read counted =
     let message = c.args.message.now in
     record {
       new = λ there. true≢false (sym ((read.seen.exact (c.args.protocol, c.args.message)).1 there) ∙ not-true _ (sym c.in_ok-is_new.ensures.added ∙ c.if-not-is_new.false));
-      behind = record {
+      following = record {
         sections = c.in_ok-push.ensures.items ∙ ap (λ s. c.args.self.now.sections.items ++ s ∷ []) c.in_ok-begun.ensures ∙ sections_begun forms c.args.self.now.sections.items protocol message protocol message c.args.number refl refl read.sections counted;
         seen = seen_section c.args.self.now.seen c.insert.new.self forms protocol message read.seen (Adds-pair _ _ (c.args.protocol, c.args.message) protocol message refl refl c.in_ok-is_new.ensures.updates.0);
         unfinished = sym (open_word-push forms (section protocol message));

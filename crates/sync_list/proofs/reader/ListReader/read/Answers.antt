@@ -5,7 +5,7 @@ use Rattle.sync_list.specs.declared.line.ListLine.{ListLine}
 use Rattle.sync_list.specs.Forms.{blank, comment, value, more}
 use Rattle.sync_list.specs.Reading.{IsLine}
 use Rattle.sync_list.proofs.Grown.{open_word-push}
-use Rattle.sync_list.proofs.Lines.{sections_quiet, seen_behind}
+use Rattle.sync_list.proofs.Lines.{sections_quiet, seen_after}
 use Rattle.sync_list.proofs.Refused.{bad_section, bad_value, bad_other, none_yet, some_yet}
 use Rattle.sync_list.proofs.reader.ListReader.read.Goals as goal
 
@@ -22,12 +22,12 @@ returns-in-Blank-clause-ok c forms read counted =
       | inl e ↦ record {
         form = blank;
         fits = subst P e c.line_of.ensures;
-        behind = record { sections = sections_quiet forms blank _ refl refl read.sections; seen = seen_behind c.args.self.now.seen forms blank refl read.seen; unfinished = sym (open_word-push forms blank) };
+        following = record { sections = sections_quiet forms blank _ refl refl read.sections; seen = seen_after c.args.self.now.seen forms blank refl read.seen; unfinished = sym (open_word-push forms blank) };
       }
       | inr e ↦ record {
         form = comment;
         fits = subst P e c.line_of.ensures;
-        behind = record { sections = sections_quiet forms comment _ refl refl read.sections; seen = seen_behind c.args.self.now.seen forms comment refl read.seen; unfinished = sym (open_word-push forms comment) };
+        following = record { sections = sections_quiet forms comment _ refl refl read.sections; seen = seen_after c.args.self.now.seen forms comment refl read.seen; unfinished = sym (open_word-push forms comment) };
       }
     ]
 
@@ -48,7 +48,7 @@ returns-else-is_empty-clause-ok c forms read counted =
     record {
       form = form;
       fits = (c.in-Value.ensures, some_yet forms sections.items (vec_len sections) read.sections lens (sym c.is_empty.ensures ∙ c.if-is_empty.false));
-      behind = c.take_value.ensures forms form read (refl, ap not c.are_blanks.ensures);
+      following = c.take_value.ensures forms form read (refl, ap not c.are_blanks.ensures);
     }
 
 pub returns-in-Some-clause-ok : goal.returns-in-Some-clause-ok
@@ -57,7 +57,7 @@ returns-in-Some-clause-ok c forms read counted =
     record {
       form = form;
       fits = (c.in-Indented.ensures, sym read.unfinished ∙ ap option_copied c.in-Some.is);
-      behind = c.take_value-in-Indented.ensures forms form read (refl, refl);
+      following = c.take_value-in-Indented.ensures forms form read (refl, refl);
     }
 
 pub returns-in-Other-clause-err : goal.returns-in-Other-clause-err

@@ -8,7 +8,7 @@ use Rattle.thread_link.proofs.pass.Exchange.turn.Goals as goal
 use Rattle.thread_link.specs.Passes.{about}
 use Rattle.thread_link.specs.Seats.{Adds}
 use Rattle.world_core.specs.declared.link.Link.{Link}
-use Rattle.world_core.specs.Halves.{FitsBehind, HasMet, IsHome, MeetEnds}
+use Rattle.world_core.specs.Halves.{FitsAfter, HasMet, IsHome, MeetEnds}
 
 pub meet-answer-requires : goal.meet-answer-requires
 meet-answer-requires g c =
@@ -17,7 +17,7 @@ meet-answer-requires g c =
     let side = c.args.pass.now.side in
     let link = c.take-shared.result.link in
     let home : IsHome setting link = subst (λ (s : Setting). IsHome s link) c.requires.1.1.belongs.setting t.home in (
-      subst (λ (at : Setting × Side). FitsBehind at.0 at.1 link.lines c.args.half.now) (sym c.requires.1.0) (fits-on c.halves_fit_behind_more.ensures setting side _ link c.args.half.now c.requires.1.1.fits t.seen home),
+      subst (λ (at : Setting × Side). FitsAfter at.0 at.1 link.lines c.args.half.now) (sym c.requires.1.0) (fits-on c.halves_fit_after_more.ensures setting side _ link c.args.half.now c.requires.1.1.fits t.seen home),
       subst (λ (at : Setting × Side). IsHome at.0 link) (sym c.requires.1.0) home,
     )
 
@@ -72,7 +72,7 @@ returns-clause-worked g c =
             table = gave.table ∙ (t.table ∙ c.requires.1.1.belongs.table);
             setting = told-setting false side _ _ c.give-turns.new.seat.me _ gave.me ∙ (told-setting true side _ _ c.take-shared.new.seat.me _ t.me ∙ c.requires.1.1.belongs.setting);
           };
-          fits = subst (λ (ls : List Line). FitsBehind setting side ls c.meet-answer.new.self) (sym told) met.fits;
+          fits = subst (λ (ls : List Line). FitsAfter setting side ls c.meet-answer.new.self) (sym told) met.fits;
         };
         grows = met-grows side _ _ _ _ t.seen (met-adds setting side _ _ _ _ met) told;
       };

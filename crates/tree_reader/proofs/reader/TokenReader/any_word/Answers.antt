@@ -16,9 +16,9 @@ pub returns-in_ok-name-in-Some-clause-turns : goal.returns-in_ok-name-in-Some-cl
 returns-in_ok-name-in-Some-clause-turns c =
     let here : c.args.self.now ≡ c.in-Some.first.now ∷ c.in-Some.rest.now = search rules in
     let is : c.in-Some.first.now.kind ≢ Mark = search rules in
-    let behind : c.self-in-Some.inside.rest.now ≡ c.in-Some.rest.now = search rules in
+    let following : c.self-in-Some.inside.rest.now ≡ c.in-Some.rest.now = search rules in
     let P : List Token → Type 0 = λ to. Turns (any_word ∷ []) c.args.self.now [] to in
-    subst P (sym behind) (word_taken c.args.self.now c.in-Some.first.now c.in-Some.rest.now here is)
+    subst P (sym following) (word_taken c.args.self.now c.in-Some.first.now c.in-Some.rest.now here is)
 
 pub returns-in-None-clause-stops : goal.returns-in-None-clause-stops
 returns-in-None-clause-stops c =

@@ -4,7 +4,7 @@ use Rattle.end_parts.specs.PlainLines.{plain_line}
 use Rattle.ipdl_base.specs.declared.line.Line.{Line}
 use Rattle.ipdl_base.specs.declared.schema.Schema.{Schema}
 use Rattle.world_core.specs.WorldView.{WorldView}
-use Rattle.transcript_reader.specs.Compared.{HasCompared, HasPassed}
+use Rattle.transcripts.specs.Compared.{HasCompared, HasPassed}
 use Rattle.world_core.proofs.PlainComparing.{newest-found}
 use Rattle.world_core.proofs.world.World.compare.Goals as goal
 

@@ -1,5 +1,5 @@
 use Rattle.std.proofs.Common.{ℕ, subst, sym, ap, ◌∙◌}
-use Rattle.transcript_laws.specs.TextLines.{text_lines}
+use Rattle.transcripts.specs.TextLines.{text_lines}
 use Rattle.world_core.specs.declared.world.replay.Replay.TheVariants as replay
 use Rattle.world_core.specs.Followed.{lines_seen}
 use Rattle.world_core.specs.Replayed.{IsReplayed}
@@ -18,5 +18,5 @@ pub returns-in-Effect : goal.returns-in-Effect
 returns-in-Effect c =
     let w = c.args.self.now in
     let at = c.args.comparison.now in
-    subst (λ (n : ℕ). IsReplayed w.setting (lines_seen w at) (replay.Apart n)) (sym c.lines.ensures)
+    subst (λ (n : ℕ). IsReplayed w.setting (lines_seen w at) (replay.Diverged n)) (sym c.lines.ensures)
     (effect-replayed w at c.is_lawful.ensures.case c.requires.passed c.split_line.result.0.now (text_lines c.split_line.result.1.now) (ap text_lines (sym c.left.ensures) ∙ c.split_line.ensures.lines) (side-none c.split_line.result.0.now c.in-Effect.ensures.0) c.in-Effect.ensures.1)

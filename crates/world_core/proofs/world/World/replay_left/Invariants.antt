@@ -1,6 +1,6 @@
 use Rattle.std.proofs.Common.{◌≡◌, length}
-use Rattle.transcript_laws.specs.TextLines.{text_lines}
-use Rattle.transcript_reader.specs.Compared.{HasPassed}
+use Rattle.transcripts.specs.TextLines.{text_lines}
+use Rattle.transcripts.specs.Compared.{HasPassed}
 use Rattle.world_core.specs.Followed.{lines_seen}
 use Rattle.world_core.proofs.world.World.replay_left.Given as goal
 

@@ -1,6 +1,6 @@
 use Rattle.std.proofs.Common.{ap, ◌∙◌}
 use Rattle.script_steps.specs.Turns.{at_limit}
-use Rattle.transcript_reader.specs.Lines.{line_of_ending}
+use Rattle.transcripts.specs.Lines.{line_of_ending}
 use Rattle.world_core.proofs.Trying.{says-it, says-none}
 use Rattle.world_core.proofs.world.World.says_ending.Goals as goal
 

@@ -1,0 +1,13 @@
+pub mod Rejections
+pub mod Falls
+pub mod FailedWaits
+pub mod Refusals
+pub mod DeliveryRefusals
+pub mod Arrivals
+pub mod SentRequests
+pub mod AnswerPackets
+pub mod TakenItems
+pub mod Renamings
+pub mod BuiltActors
+pub mod RequestPlans
+pub mod Deletions

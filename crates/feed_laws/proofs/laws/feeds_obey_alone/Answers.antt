@@ -1,5 +1,0 @@
-use Rattle.feed_laws.proofs.FeedsAlone as law
-use Rattle.feed_laws.proofs.laws.feeds_obey_alone.Goals as goal
-
-pub returns : goal.returns
-returns c = law.feeds_obey_alone

@@ -1,9 +1,0 @@
-use ipdl_base::Side;
-use nesting_core::Head;
-
-/// A call whose answer has not come: the end that waits, and what its stack keeps of it.
-#[derive(Clone, Copy, Debug, PartialEq, Eq)]
-pub struct Held {
-    pub side: Side,
-    pub head: Head,
-}

@@ -1,6 +1,0 @@
-use Rattle.std.proofs.Common.{sym}
-use Rattle.ipdl_lex.proofs.Lines.{behind_token}
-use Rattle.ipdl_lex.proofs.scan.behind_piece.Goals as goal
-
-pub returns-in-Some : goal.returns-in-Some
-returns-in-Some c = sym (behind_token c.args.here c.args.kind _ c.args.bytes.now c.in-Some.is c.requires.piece)

@@ -1,0 +1,27 @@
+use Rattle.std.proofs.Common.{ℕ, List, string_bytes, subst}
+use Rattle.std.specs.Prelude.{Option}
+use Rattle.std.proofs.lemmas.Result.{IfOk-weaker}
+use Rattle.ipdl_base.specs.Outside.{IsHeldWithin}
+use Rattle.transcripts.specs.Compared.{most_text_bytes}
+use Rattle.handler_script.specs.declared.script.Script.{Script}
+use Rattle.ipdl_base.specs.declared.schema.Schema.{Schema}
+use Rattle.ipdl_top.specs.declared.answer.CommandAnswer.{CommandAnswer}
+use Rattle.ipdl_top.specs.Audit.{SaysAudit, SaysAuditedOf}
+use Rattle.ipdl_top.specs.Scripts.{SaysByScript}
+use Rattle.ipdl_top.specs.Steps.{IsHeld}
+use Rattle.ipdl_top.proofs.Weaker.{script_by, told_by}
+use Rattle.ipdl_top.proofs.audit.answer.answer_audit.Goals as goal
+
+pub returns : goal.returns
+returns c =
+    let options = c.args.options.now in
+    let limit = options.limit in
+    let name = c.as_str.result.now in
+    let transcript = string_bytes options.transcript in
+    let file = c.args.file.now in
+    let Any : Schema → Script → CommandAnswer → Type 0 = λ schema script answer. (bytes : Option (List ℕ)) → IsHeldWithin most_text_bytes bytes c.args.text.now → SaysAuditedOf limit transcript bytes schema script answer in
+    let Says : Schema → CommandAnswer → Type 0 = λ schema answer. (text : Option (List ℕ)) → IsHeld text c.args.script.now → SaysByScript (Any schema) name text file schema answer in
+    IfOk-weaker c.answer_by_schema.result _ _
+    (λ answer told text bytes held is. told_by Says (SaysAudit limit (string_bytes options.script) text transcript bytes file) c.args.checked answer
+    (λ schema says. subst (λ (script : List ℕ). SaysByScript (SaysAuditedOf limit transcript bytes schema) script text file schema answer) c.as_str.ensures.value
+    (script_by (Any schema) (SaysAuditedOf limit transcript bytes schema) name text file schema answer (λ script audited. audited bytes is) (says text held))) told) c.answer_by_schema.ensures

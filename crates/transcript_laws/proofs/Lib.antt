@@ -1,3 +1,0 @@
-pub mod Feedless
-pub mod Lines
-pub mod Parts

@@ -1,4 +1,0 @@
-pub mod TextLines
-pub mod Told
-pub mod Printed
-pub mod Laws
