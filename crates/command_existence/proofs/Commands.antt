@@ -5,7 +5,7 @@ use Rattle.std.specs.List.{AllByRecursion}
 use Rattle.std.specs.Str.{IsUtf8}
 use Rattle.clap.specs.Words.{Kinds, fault_of}
 use Rattle.command_words.specs.Audit.{IsNoAudit, audit_options, audit_word}
-use Rattle.command_words.specs.Command.{CommandView, Say, audit, compile, feed, frames, gen, relay, run, waits}
+use Rattle.command_words.specs.Command.{CommandView, Say, audit, chart, compile, feed, frames, gen, relay, run, waits}
 use Rattle.command_words.specs.Compile.{AreFiles, IsForCompile, IsNoCompile, IsPath, compile_options}
 use Rattle.command_words.specs.Feed.{IsNoFeed, IsSide, feed_options, feed_word}
 use Rattle.command_words.specs.Forms.{form_of, own_id}
@@ -14,7 +14,7 @@ use Rattle.command_words.specs.Gen.{IsActors, IsNoGen, IsRounds, gen_options, ge
 use Rattle.command_words.specs.Operands.{AreScriptOperands}
 use Rattle.command_words.specs.Options.{Choice, EachOnce, Reads, WordUse, own_words, value_of}
 use Rattle.command_words.specs.Relay.{IsNoRelay, relay_options, relay_word}
-use Rattle.command_words.specs.Run.{AreRunOperands, IsNoRun, run_options, run_word}
+use Rattle.command_words.specs.Run.{AreRunOperands, Course, IsNoChart, IsNoRun, IsNoRunBy, SaysNoRun, SaysRun, chart_word, run_options, run_word}
 use Rattle.command_words.specs.RunOptions.{IsDeath, IsLimit, IsSchedule}
 use Rattle.command_words.specs.Tables.{IsTable}
 use Rattle.command_words.specs.Waits.{IsNoWaits, IsOperand, waits_word}
@@ -122,32 +122,55 @@ module _ (words : List Text) (texts : AllByRecursion IsUtf8 words) where
       by (inr none) = inr (λ list path file c. none c.1.said (record { reads = c.1.reads; once = c.1.once }))
       by (inl (said, s)) = by_values said s (path_decided (value_of (codes "path") said)) (operand_decided (own_words said))
 
-  pub run_decided : ((command : CommandView) × Say (run_word ∷ words) command) ⊎ IsNoRun (run_word ∷ words)
-  run_decided = by (said_decided run_options run_table words texts)
+  -- what the words after the first word of a command that runs a script say
+  abbrev IsRunSaid : Type 0
+  IsRunSaid = (list : Option Text) × (path : List Text) × (course : Course) × (script : Text) × (file : Text) × SaysRun words list path course script file
+
+  run_words_decided : IsRunSaid ⊎ SaysNoRun words
+  run_words_decided = by (said_decided run_options run_table words texts)
     where
       by_values : (said : List WordUse) → IsSaid run_options words said → Decided (IsPath (value_of (codes "path") said)) → Decided (IsSchedule (value_of (codes "schedule") said)) → Decided (IsLimit (value_of (codes "limit") said))
           → Decided (IsDeath (value_of (codes "die") said)) → ((script : Text) × (file : Text) × AreRunOperands (own_words said) script file) ⊎ ((script file : Text) → AreRunOperands (own_words said) script file → ⊥)
-          → ((command : CommandView) × Say (run_word ∷ words) command) ⊎ IsNoRun (run_word ∷ words)
+          → IsRunSaid ⊎ SaysNoRun words
       by_values said s (inl (path, p)) (inl (schedule, w)) (inl (limit, l)) (inl (death, d)) (inl (script, file, o)) =
           inl (
-            run (value_of (codes "sync-msg-list") said) path (record { schedule = schedule; limit = limit; death = death }) script file,
-            (refl, record { said = said; reads = s.reads; once = s.once; list_is = refl; path_is = p; schedule_is = w; limit_is = l; death_is = d; operands = o }),
+            value_of (codes "sync-msg-list") said,
+            path,
+            record { schedule = schedule; limit = limit; death = death },
+            script,
+            file,
+            record { said = said; reads = s.reads; once = s.once; list_is = refl; path_is = p; schedule_is = w; limit_is = l; death_is = d; operands = o },
           )
       by_values said s (inr none) schedule limit death operands =
-          inr (λ list path course script file c. none path (given_so run_options run_table words said s c.1.said (record { reads = c.1.reads; once = c.1.once }) (λ v. IsPath v path) (codes "path") path_ne c.1.path_is))
+          inr (λ list path course script file c. none path (given_so run_options run_table words said s c.said (record { reads = c.reads; once = c.once }) (λ v. IsPath v path) (codes "path") path_ne c.path_is))
       by_values said s (inl path) (inr none) limit death operands =
-          inr (λ list path course script file c. none course.schedule (given_so run_options run_table words said s c.1.said (record { reads = c.1.reads; once = c.1.once }) (λ v. IsSchedule v course.schedule) (codes "schedule") schedule_ne c.1.schedule_is))
+          inr (λ list path course script file c. none course.schedule (given_so run_options run_table words said s c.said (record { reads = c.reads; once = c.once }) (λ v. IsSchedule v course.schedule) (codes "schedule") schedule_ne c.schedule_is))
       by_values said s (inl path) (inl schedule) (inr none) death operands =
-          inr (λ list path course script file c. none course.limit (given_so run_options run_table words said s c.1.said (record { reads = c.1.reads; once = c.1.once }) (λ v. IsLimit v course.limit) (codes "limit") limit_ne c.1.limit_is))
+          inr (λ list path course script file c. none course.limit (given_so run_options run_table words said s c.said (record { reads = c.reads; once = c.once }) (λ v. IsLimit v course.limit) (codes "limit") limit_ne c.limit_is))
       by_values said s (inl path) (inl schedule) (inl limit) (inr none) operands =
-          inr (λ list path course script file c. none course.death (given_so run_options run_table words said s c.1.said (record { reads = c.1.reads; once = c.1.once }) (λ v. IsDeath v course.death) (codes "die") die_ne c.1.death_is))
+          inr (λ list path course script file c. none course.death (given_so run_options run_table words said s c.said (record { reads = c.reads; once = c.once }) (λ v. IsDeath v course.death) (codes "die") die_ne c.death_is))
       by_values said s (inl path) (inl schedule) (inl limit) (inl death) (inr none) =
-          inr (λ list path course script file c. none script file (others_so run_options run_table words said s c.1.said (record { reads = c.1.reads; once = c.1.once }) (λ ws. AreRunOperands ws script file) c.1.operands))
+          inr (λ list path course script file c. none script file (others_so run_options run_table words said s c.said (record { reads = c.reads; once = c.once }) (λ ws. AreRunOperands ws script file) c.operands))
 
-      by : Decided (IsSaid run_options words) → ((command : CommandView) × Say (run_word ∷ words) command) ⊎ IsNoRun (run_word ∷ words)
-      by (inr none) = inr (λ list path course script file c. none c.1.said (record { reads = c.1.reads; once = c.1.once }))
+      by : Decided (IsSaid run_options words) → IsRunSaid ⊎ SaysNoRun words
+      by (inr none) = inr (λ list path course script file c. none c.said (record { reads = c.reads; once = c.once }))
       by (inl (said, s)) =
           by_values said s (path_decided (value_of (codes "path") said)) (schedule_decided (value_of (codes "schedule") said)) (limit_decided (value_of (codes "limit") said)) (death_decided (value_of (codes "die") said)) (run_operands_decided (own_words said))
+
+  -- so the words with the first word are that command, or are not
+  run_by_decided : (first : Text) (command : Option Text → List Text → Course → Text → Text → CommandView) → ((list : Option Text) (path : List Text) (course : Course) (script file : Text) → SaysRun words list path course script file → Say (first ∷ words) (command list path course script file))
+      → ((command : CommandView) × Say (first ∷ words) command) ⊎ IsNoRunBy first (first ∷ words)
+  run_by_decided first command says = by run_words_decided
+    where
+      by : IsRunSaid ⊎ SaysNoRun words → ((command : CommandView) × Say (first ∷ words) command) ⊎ IsNoRunBy first (first ∷ words)
+      by (inl (list, path, course, script, file, said)) = inl (command list path course script file, says list path course script file said)
+      by (inr none) = inr (λ list path course script file c. none list path course script file c.1)
+
+  pub run_decided : ((command : CommandView) × Say (run_word ∷ words) command) ⊎ IsNoRun (run_word ∷ words)
+  run_decided = run_by_decided run_word run (λ list path course script file said. (refl, said))
+
+  pub chart_decided : ((command : CommandView) × Say (chart_word ∷ words) command) ⊎ IsNoChart (chart_word ∷ words)
+  chart_decided = run_by_decided chart_word chart (λ list path course script file said. (refl, said))
 
   pub gen_decided : ((command : CommandView) × Say (gen_word ∷ words) command) ⊎ IsNoGen (gen_word ∷ words)
   gen_decided = by (said_decided gen_options gen_table words texts)

@@ -1,14 +1,14 @@
 -- Words are one command at most, and when they are not a command.
 use Rattle.std.proofs.Common.{◌≡◌, ◌≢◌, ◌∙◌, ◌+◌, ℕ, Bool, true, false, cond, List, [], ◌∷◌, length, map, refl, sym, ap, subst, arith, inl, inr}
 use Rattle.std.specs.Str.{bytes_eq}
-use Rattle.command_words.specs.Command.{CommandView, IsNoCommand, Say, audit, compile, feed, frames, gen, relay, run, waits}
+use Rattle.command_words.specs.Command.{CommandView, IsNoCommand, Say, audit, chart, compile, feed, frames, gen, relay, run, waits}
 use Rattle.command_words.specs.Audit.{IsNoAudit, audit_word}
 use Rattle.command_words.specs.Compile.{HasWord, IsForCompile, IsNoCompile, other_commands}
 use Rattle.command_words.specs.Feed.{IsNoFeed, feed_word}
 use Rattle.command_words.specs.Frames.{IsNoFrames, frames_word}
 use Rattle.command_words.specs.Gen.{IsNoGen, gen_word}
 use Rattle.command_words.specs.Relay.{IsNoRelay, relay_word}
-use Rattle.command_words.specs.Run.{IsNoRun, run_word}
+use Rattle.command_words.specs.Run.{IsNoChart, IsNoRun, chart_word, run_word}
 use Rattle.command_words.specs.Waits.{IsNoWaits, waits_word}
 use Rattle.command_words.proofs.AuditFound.{one_audit}
 use Rattle.command_words.proofs.Comparisons.{text_is}
@@ -38,6 +38,7 @@ kind (gen n m) = 3
 kind (feed l p c s f g) = 4
 kind (audit l p n s f g) = 5
 kind (relay l p c s f) = 6
+kind (chart l p c s f) = 7
 kind (compile l p f) = length other_commands
 
 absent : (ws : List Text) (word : Text) → ¬ HasWord ws word → place ws word ≡ length ws
@@ -61,6 +62,7 @@ kind_is [] (gen n m) said = absurd said
 kind_is [] (feed l p c s f g) said = absurd said
 kind_is [] (audit l p n s f g) said = absurd said
 kind_is [] (relay l p c s f) said = absurd said
+kind_is [] (chart l p c s f) said = absurd said
 kind_is (word ∷ words) (compile l p f) said = sym (absent other_commands word said.chosen)
 kind_is (word ∷ words) (frames l p f g c) said = begin word frames_word 0 refl said.0
 kind_is (word ∷ words) (waits l p f) said = begin word waits_word 1 refl said.0
@@ -69,16 +71,18 @@ kind_is (word ∷ words) (gen n m) said = begin word gen_word 3 refl said.0
 kind_is (word ∷ words) (feed l p c s f g) said = begin word feed_word 4 refl said.0
 kind_is (word ∷ words) (audit l p n s f g) said = begin word audit_word 5 refl said.0
 kind_is (word ∷ words) (relay l p c s f) said = begin word relay_word 6 refl said.0
+kind_is (word ∷ words) (chart l p c s f) said = begin word chart_word 7 refl said.0
 
 pub one_command : (words : List Text) (one other : CommandView) → Say words one → Say words other → one ≡ other
 one_command words (compile l p f) (compile l' p' f') a b = let e = one_compile words l l' p p' f f' a b in rw (e.0, e.1, e.2) refl
 one_command words (frames l p f g c) (frames l' p' f' g' c') a b = let e = one_frames words l l' p p' f f' g g' c c' a b in rw (e.0, e.1, e.2, e.3, e.4) refl
 one_command words (waits l p f) (waits l' p' f') a b = let e = one_waits words l l' p p' f f' a b in rw (e.0, e.1, e.2) refl
-one_command words (run l p c s f) (run l' p' c' s' f') a b = let e = one_run words l l' p p' c c' s s' f f' a b in rw (e.0, e.1, e.2, e.3, e.4) refl
+one_command words (run l p c s f) (run l' p' c' s' f') a b = let e = one_run run_word words l l' p p' c c' s s' f f' a b in rw (e.0, e.1, e.2, e.3, e.4) refl
 one_command words (gen n m) (gen n' m') a b = let e = one_gen words n n' m m' a b in rw (e.0, e.1) refl
 one_command words (feed l p c s f g) (feed l' p' c' s' f' g') a b = let e = one_feed words l l' p p' c c' s s' f f' g g' a b in rw (e.0, e.1, e.2, e.3, e.4, e.5) refl
 one_command words (audit l p n s f g) (audit l' p' n' s' f' g') a b = let e = one_audit words l l' p p' n n' s s' f f' g g' a b in rw (e.0, e.1, e.2, e.3, e.4, e.5) refl
 one_command words (relay l p c s f) (relay l' p' c' s' f') a b = let e = one_relay words l l' p p' c c' s s' f f' a b in rw (e.0, e.1, e.2, e.3, e.4) refl
+one_command words (chart l p c s f) (chart l' p' c' s' f') a b = let e = one_run chart_word words l l' p p' c c' s s' f f' a b in rw (e.0, e.1, e.2, e.3, e.4) refl
 one_command words one other a b = let e = kind_is words one a ∙ sym (kind_is words other b) in absurd (omega (arith, e))
 
 -- words that choose no other command and compile nothing are not a command
@@ -88,15 +92,16 @@ none_for_compile [] for none command said = absurd said
 none_for_compile (word ∷ words) for none command said = let e = kind_is (word ∷ words) command said ∙ absent other_commands word for in absurd (omega (arith, e))
 
 -- words whose first is that of none of them choose no other command, and no words do
-pub for_compile : (word : Text) (words : List Text) → word ≢ frames_word → word ≢ waits_word → word ≢ run_word → word ≢ gen_word → word ≢ feed_word → word ≢ audit_word → word ≢ relay_word → IsForCompile (word ∷ words)
-for_compile word words no_frames no_waits no_run no_gen no_feed no_audit no_relay (inl e) = no_frames (sym e)
-for_compile word words no_frames no_waits no_run no_gen no_feed no_audit no_relay (inr (inl e)) = no_waits (sym e)
-for_compile word words no_frames no_waits no_run no_gen no_feed no_audit no_relay (inr (inr (inl e))) = no_run (sym e)
-for_compile word words no_frames no_waits no_run no_gen no_feed no_audit no_relay (inr (inr (inr (inl e)))) = no_gen (sym e)
-for_compile word words no_frames no_waits no_run no_gen no_feed no_audit no_relay (inr (inr (inr (inr (inl e))))) = no_feed (sym e)
-for_compile word words no_frames no_waits no_run no_gen no_feed no_audit no_relay (inr (inr (inr (inr (inr (inl e)))))) = no_audit (sym e)
-for_compile word words no_frames no_waits no_run no_gen no_feed no_audit no_relay (inr (inr (inr (inr (inr (inr (inl e))))))) = no_relay (sym e)
-for_compile word words no_frames no_waits no_run no_gen no_feed no_audit no_relay (inr (inr (inr (inr (inr (inr (inr none))))))) = none
+pub for_compile : (word : Text) (words : List Text) → word ≢ frames_word → word ≢ waits_word → word ≢ run_word → word ≢ gen_word → word ≢ feed_word → word ≢ audit_word → word ≢ relay_word → word ≢ chart_word → IsForCompile (word ∷ words)
+for_compile word words no_frames no_waits no_run no_gen no_feed no_audit no_relay no_chart (inl e) = no_frames (sym e)
+for_compile word words no_frames no_waits no_run no_gen no_feed no_audit no_relay no_chart (inr (inl e)) = no_waits (sym e)
+for_compile word words no_frames no_waits no_run no_gen no_feed no_audit no_relay no_chart (inr (inr (inl e))) = no_run (sym e)
+for_compile word words no_frames no_waits no_run no_gen no_feed no_audit no_relay no_chart (inr (inr (inr (inl e)))) = no_gen (sym e)
+for_compile word words no_frames no_waits no_run no_gen no_feed no_audit no_relay no_chart (inr (inr (inr (inr (inl e))))) = no_feed (sym e)
+for_compile word words no_frames no_waits no_run no_gen no_feed no_audit no_relay no_chart (inr (inr (inr (inr (inr (inl e)))))) = no_audit (sym e)
+for_compile word words no_frames no_waits no_run no_gen no_feed no_audit no_relay no_chart (inr (inr (inr (inr (inr (inr (inl e))))))) = no_relay (sym e)
+for_compile word words no_frames no_waits no_run no_gen no_feed no_audit no_relay no_chart (inr (inr (inr (inr (inr (inr (inr (inl e)))))))) = no_chart (sym e)
+for_compile word words no_frames no_waits no_run no_gen no_feed no_audit no_relay no_chart (inr (inr (inr (inr (inr (inr (inr (inr none)))))))) = none
 
 pub none_to_compile : {X : Type 0} (f : X → Text) (words : List X) → length words ≡ 0 → IsForCompile (map f words)
 none_to_compile f [] e = tt
@@ -154,3 +159,10 @@ no_relay rest none command said = let e = kind_is (relay_word ∷ rest) command 
 
 pub none_after_relay : (words rest : List Text) → words ≡ relay_word ∷ rest → IsNoRelay (relay_word ∷ rest) → IsNoCommand words
 none_after_relay words rest e none = following words rest relay_word e (no_relay rest none)
+
+no_chart : (rest : List Text) → IsNoChart (chart_word ∷ rest) → IsNoCommand (chart_word ∷ rest)
+no_chart rest none (chart l p c s f) said = none l p c s f said
+no_chart rest none command said = let e = kind_is (chart_word ∷ rest) command said in absurd (omega (arith, e))
+
+pub none_after_chart : (words rest : List Text) → words ≡ chart_word ∷ rest → IsNoChart (chart_word ∷ rest) → IsNoCommand words
+none_after_chart words rest e none = following words rest chart_word e (no_chart rest none)

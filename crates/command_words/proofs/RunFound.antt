@@ -1,4 +1,4 @@
--- The command that runs a script, by what is found in its words.
+-- The commands that run a script, by what is found in their words.
 use Rattle.std.proofs.Common.{◌≡◌, ◌≢◌, ◌∙◌, ◌<◌, ℕ, List, [], ◌∷◌, Option, Some, None, refl, sym, ap, subst, arith, codes}
 use Rattle.std.specs.Prelude.{slice_index, unwrap_or}
 use Rattle.std.proofs.lemmas.Option.{same_Some}
@@ -11,7 +11,7 @@ use Rattle.command_words.specs.Forms.{own_id}
 use Rattle.command_words.specs.Tables.{IsTable, by_letter}
 use Rattle.command_words.specs.Found.{IsFound}
 use Rattle.command_words.specs.Compile.{IsPath, path_option}
-use Rattle.command_words.specs.Run.{AreRunOperands, Course, IsNoRun, IsRun, SaysRun, die_option, limit_option, run_options, run_word, schedule_option}
+use Rattle.command_words.specs.Run.{AreRunOperands, Course, IsRunBy, SaysNoRun, SaysRun, die_option, limit_option, run_options, schedule_option}
 use Rattle.command_words.specs.RunOptions.{IsDeath, IsLimit, IsSchedule}
 use Rattle.command_words.proofs.OneCourse.{one_death, one_limit, one_schedule}
 use Rattle.command_words.proofs.Lookups.{some_none}
@@ -69,27 +69,27 @@ run_found words found list path course script file is list_is path_is schedule_i
   operands = subst (λ (ws : List Text). AreRunOperands ws script file) (ap (λ (o : Option (List Text)). unwrap_or o []) is.others ∙ some_list (own_words is.said)) operands;
 }
 
--- without the value of an option, or without operands, the words are not the command
-pub no_path_found : (words : List Text) (found : ArgMatches) → IsFound run_options words found → ((path : List Text) → ¬ IsPath (first_of (codes "path") (rows_of (found_of found))) path) → IsNoRun (run_word ∷ words)
+-- without the value of an option, or without operands, the words do not say the command
+pub no_path_found : (words : List Text) (found : ArgMatches) → IsFound run_options words found → ((path : List Text) → ¬ IsPath (first_of (codes "path") (rows_of (found_of found))) path) → SaysNoRun words
 no_path_found words found is none list path course script file command =
-    none path (subst (λ (v : Option Text). IsPath v path) (found_value run_options words found command.1.said run_table is command.1.reads command.1.once (codes "path") path_ne) command.1.path_is)
+    none path (subst (λ (v : Option Text). IsPath v path) (found_value run_options words found command.said run_table is command.reads command.once (codes "path") path_ne) command.path_is)
 
-pub no_schedule_found : (words : List Text) (found : ArgMatches) → IsFound run_options words found → ((schedule : Option (List Turn)) → ¬ IsSchedule (first_of (codes "schedule") (rows_of (found_of found))) schedule) → IsNoRun (run_word ∷ words)
+pub no_schedule_found : (words : List Text) (found : ArgMatches) → IsFound run_options words found → ((schedule : Option (List Turn)) → ¬ IsSchedule (first_of (codes "schedule") (rows_of (found_of found))) schedule) → SaysNoRun words
 no_schedule_found words found is none list path course script file command =
-    none course.schedule (subst (λ (v : Option Text). IsSchedule v course.schedule) (found_value run_options words found command.1.said run_table is command.1.reads command.1.once (codes "schedule") schedule_ne) command.1.schedule_is)
+    none course.schedule (subst (λ (v : Option Text). IsSchedule v course.schedule) (found_value run_options words found command.said run_table is command.reads command.once (codes "schedule") schedule_ne) command.schedule_is)
 
-pub no_limit_found : (words : List Text) (found : ArgMatches) → IsFound run_options words found → ((limit : ℕ) → ¬ IsLimit (first_of (codes "limit") (rows_of (found_of found))) limit) → IsNoRun (run_word ∷ words)
+pub no_limit_found : (words : List Text) (found : ArgMatches) → IsFound run_options words found → ((limit : ℕ) → ¬ IsLimit (first_of (codes "limit") (rows_of (found_of found))) limit) → SaysNoRun words
 no_limit_found words found is none list path course script file command =
-    none course.limit (subst (λ (v : Option Text). IsLimit v course.limit) (found_value run_options words found command.1.said run_table is command.1.reads command.1.once (codes "limit") limit_ne) command.1.limit_is)
+    none course.limit (subst (λ (v : Option Text). IsLimit v course.limit) (found_value run_options words found command.said run_table is command.reads command.once (codes "limit") limit_ne) command.limit_is)
 
-pub no_death_found : (words : List Text) (found : ArgMatches) → IsFound run_options words found → ((death : Option Stop) → ¬ IsDeath (first_of (codes "die") (rows_of (found_of found))) death) → IsNoRun (run_word ∷ words)
+pub no_death_found : (words : List Text) (found : ArgMatches) → IsFound run_options words found → ((death : Option Stop) → ¬ IsDeath (first_of (codes "die") (rows_of (found_of found))) death) → SaysNoRun words
 no_death_found words found is none list path course script file command =
-    none course.death (subst (λ (v : Option Text). IsDeath v course.death) (found_value run_options words found command.1.said run_table is command.1.reads command.1.once (codes "die") die_ne) command.1.death_is)
+    none course.death (subst (λ (v : Option Text). IsDeath v course.death) (found_value run_options words found command.said run_table is command.reads command.once (codes "die") die_ne) command.death_is)
 
-pub no_operands_found : (words : List Text) (found : ArgMatches) → IsFound run_options words found → ((script file : Text) → ¬ AreRunOperands (unwrap_or (all_of own_id (rows_of (found_of found))) []) script file) → IsNoRun (run_word ∷ words)
+pub no_operands_found : (words : List Text) (found : ArgMatches) → IsFound run_options words found → ((script file : Text) → ¬ AreRunOperands (unwrap_or (all_of own_id (rows_of (found_of found))) []) script file) → SaysNoRun words
 no_operands_found words found is none list path course script file command =
     none script file (subst (λ (ws : List Text). AreRunOperands ws script file)
-    (found_words run_options words found command.1.said run_table is command.1.reads command.1.once) command.1.operands)
+    (found_words run_options words found command.said run_table is command.reads command.once) command.operands)
 
 -- ---- one command
 
@@ -102,10 +102,10 @@ same_second a b c d e = cc
 same_course : (a b : Course) → a.schedule ≡ b.schedule → a.limit ≡ b.limit → a.death ≡ b.death → a ≡ b
 same_course a b e f g = rw (e, f, g) refl
 
-pub one_run : (words : List Text) (list list' : Option Text) (path path' : List Text) (course course' : Course) (script script' file file' : Text) → IsRun words list path course script file → IsRun words list' path' course' script' file'
+pub one_run : (first : Text) (words : List Text) (list list' : Option Text) (path path' : List Text) (course course' : Course) (script script' file file' : Text) → IsRunBy first words list path course script file → IsRunBy first words list' path' course' script' file'
     → (list ≡ list') × (path ≡ path') × (course ≡ course') × (script ≡ script') × (file ≡ file')
-one_run [] list list' path path' course course' script script' file file' a b = absurd a
-one_run (word ∷ words) list list' path path' course course' script script' file file' (e, a) (f, b) =
+one_run first [] list list' path path' course course' script script' file file' a b = absurd a
+one_run first (word ∷ words) list list' path path' course course' script script' file file' (e, a) (f, b) =
     let value = same_value run_options words a.said b.said run_table a.reads a.once b.reads b.once in
     let operands : script ∷ file ∷ [] ≡ script' ∷ file' ∷ [] = sym a.operands.both ∙ same_words run_options words a.said b.said run_table a.reads a.once b.reads b.once ∙ b.operands.both in (
       a.list_is ∙ value (codes "sync-msg-list") list_ne ∙ sym b.list_is,

@@ -12,7 +12,7 @@ use Rattle.command_words.specs.Feed.{FeedCourse, IsFeed}
 use Rattle.command_words.specs.Frames.{IsFrames}
 use Rattle.command_words.specs.Gen.{IsGen}
 use Rattle.command_words.specs.Relay.{RelayCourse, IsRelay}
-use Rattle.command_words.specs.Run.{Course, IsRun}
+use Rattle.command_words.specs.Run.{Course, IsChart, IsRun}
 use Rattle.command_words.specs.Waits.{IsWaits}
 
 -- What a command says: the sync list, the folders, and what is its own; one that runs a generated case, its rounds and its actors.
@@ -25,6 +25,7 @@ pub data CommandView : Type 0 where
   feed : Option (List ℕ) → List (List ℕ) → FeedCourse → List ℕ → List ℕ → List ℕ → CommandView
   audit : Option (List ℕ) → List (List ℕ) → ℕ → List ℕ → List ℕ → List ℕ → CommandView
   relay : Option (List ℕ) → List (List ℕ) → RelayCourse → List ℕ → List ℕ → CommandView
+  chart : Option (List ℕ) → List (List ℕ) → Course → List ℕ → List ℕ → CommandView
 
 -- the sync list, the folders and the file that a command names
 abbrev pub list_of : Sources → Option (List ℕ)
@@ -56,6 +57,7 @@ view_of (commands.Gen rounds actors) = gen rounds actors
 view_of (commands.Feed sources options) = feed (list_of sources) (path_of sources) (feed_course options) (string_bytes options.script) (file_of sources) (string_bytes options.frames)
 view_of (commands.Audit sources options) = audit (list_of sources) (path_of sources) options.limit (string_bytes options.script) (file_of sources) (string_bytes options.transcript)
 view_of (commands.Relay sources options) = relay (list_of sources) (path_of sources) (relay_course options) (string_bytes options.script) (file_of sources)
+view_of (commands.Chart sources options) = chart (list_of sources) (path_of sources) (run_course options) (string_bytes options.script) (file_of sources)
 
 -- the words say this
 abbrev pub Say : List (List ℕ) → CommandView → Type 0
@@ -67,6 +69,7 @@ Say words (gen rounds actors) = IsGen words rounds actors
 Say words (feed list path course script file given) = IsFeed words list path course script file given
 Say words (audit list path limit script file given) = IsAudit words list path limit script file given
 Say words (relay list path course script file) = IsRelay words list path course script file
+Say words (chart list path course script file) = IsChart words list path course script file
 
 -- the words are this command
 abbrev pub CommandOf : List (List ℕ) → Command → Type 0

@@ -1,4 +1,5 @@
--- The command that runs a script: `ipdl run [-s LIST] [--path DIRS] [--schedule WORD] [--limit N] [--die SIDE:K] SCRIPT FILE`.
+-- The commands that run a script: `ipdl run [-s LIST] [--path DIRS] [--schedule WORD] [--limit N] [--die SIDE:K] SCRIPT FILE`, which
+-- prints the history, and `ipdl chart` with the same words, which draws it.
 use Rattle.std.specs.Prelude.{◌≡◌, ℕ, List, [], ◌∷◌, ◌++◌, Option, None, codes}
 use Rattle.schedules.specs.declared.stop.Stop.{Stop}
 use Rattle.schedules.specs.declared.turn.Turn.{Turn}
@@ -6,9 +7,12 @@ use Rattle.command_words.specs.Options.{Choice, WordUse, Reads, EachOnce, own_wo
 use Rattle.command_words.specs.Compile.{IsPath, list_option, path_option}
 use Rattle.command_words.specs.RunOptions.{IsDeath, IsLimit, IsSchedule}
 
--- the first word that chooses the command
+-- the first words that choose the commands
 abbrev pub run_word : List ℕ
 run_word = codes "run"
+
+abbrev pub chart_word : List ℕ
+chart_word = codes "chart"
 
 -- `--schedule WORD`
 abbrev pub schedule_option : Choice
@@ -49,11 +53,28 @@ pub record SaysRun (words : List (List ℕ)) (list : Option (List ℕ)) (path : 
   pub death_is : IsDeath (value_of (codes "die") said) course.death
   pub operands : AreRunOperands (own_words said) script file
 
--- The words are the command that runs this script, in this course, by the program of this file, path and list.
+-- the words after the first word say no such thing
+abbrev pub SaysNoRun : List (List ℕ) → Type 0
+SaysNoRun words = (list : Option (List ℕ)) (path : List (List ℕ)) (course : Course) (script file : List ℕ) → ¬ SaysRun words list path course script file
+
+-- The words are the command of this first word that runs this script, in this course, by the program of this file, path and list.
+abbrev pub IsRunBy : List ℕ → List (List ℕ) → Option (List ℕ) → List (List ℕ) → Course → List ℕ → List ℕ → Type 0
+IsRunBy first [] list path course script file = ⊥
+IsRunBy first (word ∷ words) list path course script file = (word ≡ first) × SaysRun words list path course script file
+
+-- The words are the command that runs the script and prints the history, and the one that draws it.
 abbrev pub IsRun : List (List ℕ) → Option (List ℕ) → List (List ℕ) → Course → List ℕ → List ℕ → Type 0
-IsRun [] list path course script file = ⊥
-IsRun (word ∷ words) list path course script file = (word ≡ run_word) × SaysRun words list path course script file
+IsRun = IsRunBy run_word
+
+abbrev pub IsChart : List (List ℕ) → Option (List ℕ) → List (List ℕ) → Course → List ℕ → List ℕ → Type 0
+IsChart = IsRunBy chart_word
 
 -- the words are no such command
+abbrev pub IsNoRunBy : List ℕ → List (List ℕ) → Type 0
+IsNoRunBy first words = (list : Option (List ℕ)) (path : List (List ℕ)) (course : Course) (script file : List ℕ) → ¬ IsRunBy first words list path course script file
+
 abbrev pub IsNoRun : List (List ℕ) → Type 0
-IsNoRun words = (list : Option (List ℕ)) (path : List (List ℕ)) (course : Course) (script file : List ℕ) → ¬ IsRun words list path course script file
+IsNoRun = IsNoRunBy run_word
+
+abbrev pub IsNoChart : List (List ℕ) → Type 0
+IsNoChart = IsNoRunBy chart_word

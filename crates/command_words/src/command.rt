@@ -9,7 +9,7 @@ use crate::feed::{FeedOptions, feed};
 use crate::frames::{FramesOptions, frames};
 use crate::generation::generation;
 use crate::relay::{RelayOptions, relay};
-use crate::run::{RunOptions, run};
+use crate::run::{RunOptions, chart, run};
 use crate::waits::waits;
 use std::alloc::Global;
 
@@ -55,6 +55,8 @@ pub enum Command {
     Audit(Sources, AuditOptions),
     /// Runs a script over two queues, and prints what each end has seen.
     Relay(Sources, RelayOptions),
+    /// Runs a script, and draws the history of both ends.
+    Chart(Sources, RunOptions),
 }
 
 /// Reads words as a command. The name of the program is not among them (docs/command_line.md).
@@ -87,6 +89,9 @@ pub fn read_words(alloc: Global, words: &[String]) -> Result<Command, WordsFault
         }
         if first.as_str() == "relay" {
             return relay(alloc, rest);
+        }
+        if first.as_str() == "chart" {
+            return chart(alloc, rest);
         }
     }
     compile(alloc, words)

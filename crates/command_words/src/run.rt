@@ -1,7 +1,7 @@
-//! The words of the command that runs a script.
+//! The words of the commands that run a script: one prints the history, and the other draws it.
 ghost use Rattle.std.specs.Prelude.{◌≡◌, ◌∷◌, List, ℕ, IfErr, IfOk, map, option_map, string_bytes};
-ghost use Rattle.command_words.specs.Command.{CommandOf};
-ghost use Rattle.command_words.specs.Run.{AreRunOperands, IsNoRun, run_word};
+ghost use Rattle.command_words.specs.Command.{CommandOf, file_of, list_of, path_of, run_course};
+ghost use Rattle.command_words.specs.Run.{AreRunOperands, IsNoChart, IsNoRun, SaysNoRun, SaysRun, chart_word, run_word};
 
 use crate::WordsFault;
 use crate::command::{Command, Sources};
@@ -12,7 +12,7 @@ use crate::texts::copy_of;
 use schedules::{Stop, Turn};
 use std::alloc::Global;
 
-/// The options of the command that runs a script.
+/// The options of the commands that run a script.
 const RUN_OPTIONS: [Choice; 5] = [
     Choice {
         name: "sync-msg-list",
@@ -36,7 +36,7 @@ const RUN_OPTIONS: [Choice; 5] = [
     },
 ];
 
-/// How the command runs a script.
+/// How the commands run a script.
 #[derive(Debug, Drop)]
 pub struct RunOptions {
     /// The name of the script.
@@ -76,10 +76,11 @@ pub fn run_operands_of(alloc: Global, words: &[&str]) -> Result<RunOperands, Wor
     })
 }
 
-/// Reads the words after `run`. The fault is `Usage` if they do not fit the command (docs/command_line.md).
-pub fn run(alloc: Global, words: &[String]) -> Result<Command, WordsFault>
-    ensures command { IfOk result (λ command. CommandOf (run_word ∷ map string_bytes words.now) command) }
-    ensures usage { IfErr result (λ fault. fault ≡ WordsFault.Usage → IsNoRun (run_word ∷ map string_bytes words.now)) }
+/// Reads the words after `run` or `chart`. The fault is `Usage` if they do not fit these commands (docs/command_line.md).
+fn run_words(alloc: Global, words: &[String]) -> Result<(Sources, RunOptions), WordsFault>
+    ensures says { IfOk result (λ said. SaysRun (map string_bytes words.now) (list_of said.0) (path_of said.0)
+        (run_course said.1) (string_bytes said.1.script) (file_of said.0)) }
+    ensures usage { IfErr result (λ fault. fault ≡ WordsFault.Usage → SaysNoRun (map string_bytes words.now)) }
 {
     let found = read_options(alloc, &RUN_OPTIONS, words)?;
     let limit = limit_of(found.get_str("limit"))?;
@@ -89,7 +90,7 @@ pub fn run(alloc: Global, words: &[String]) -> Result<Command, WordsFault>
     let operands = run_operands_of(alloc, found.get_strs("words").unwrap_or(&[]))?;
     let list = copy_of(alloc, found.get_str("sync-msg-list"))?;
     let RunOperands { script, file } = operands;
-    Ok(Command::Run(
+    Ok((
         Sources { list, path, file },
         RunOptions {
             script,
@@ -98,4 +99,22 @@ pub fn run(alloc: Global, words: &[String]) -> Result<Command, WordsFault>
             death,
         },
     ))
+}
+
+/// Reads the words after `run`. The fault is `Usage` if they do not fit the command (docs/command_line.md).
+pub fn run(alloc: Global, words: &[String]) -> Result<Command, WordsFault>
+    ensures command { IfOk result (λ command. CommandOf (run_word ∷ map string_bytes words.now) command) }
+    ensures usage { IfErr result (λ fault. fault ≡ WordsFault.Usage → IsNoRun (run_word ∷ map string_bytes words.now)) }
+{
+    let (sources, options) = run_words(alloc, words)?;
+    Ok(Command::Run(sources, options))
+}
+
+/// Reads the words after `chart`. The fault is `Usage` if they do not fit the command (docs/command_line.md).
+pub fn chart(alloc: Global, words: &[String]) -> Result<Command, WordsFault>
+    ensures command { IfOk result (λ command. CommandOf (chart_word ∷ map string_bytes words.now) command) }
+    ensures usage { IfErr result (λ fault. fault ≡ WordsFault.Usage → IsNoChart (chart_word ∷ map string_bytes words.now)) }
+{
+    let (sources, options) = run_words(alloc, words)?;
+    Ok(Command::Chart(sources, options))
 }
