@@ -7,7 +7,7 @@ use Rattle.command_words.specs.Command.{CommandView, Say}
 use Rattle.command_words.specs.Command as command
 use Rattle.command_words.specs.RunOptions.{IsLimit}
 use Rattle.ipdl_top.specs.declared.answer.CommandAnswer.{CommandAnswer}
-use Rattle.ipdl_top.specs.declared.rendering.Rendering.TheVariants.{Summary, Transcript}
+use Rattle.ipdl_top.specs.declared.rendering.Rendering.TheVariants.{Chart, Summary, Transcript}
 use Rattle.ipdl_top.specs.Audit.{SaysAuditedOf}
 use Rattle.ipdl_top.specs.CommandAnswer.{AnswersTo, IsAnswer, SaysTables, table_answer, usage_answer}
 use Rattle.ipdl_top.specs.CommandFiles.{given_by}
@@ -58,7 +58,7 @@ module _ (laws : AnswerLaws) (Gives : Driving) (Relays : Relaying) (seen : FileV
   answer_to (command.run list path course script file) (word ∷ words) is drives =
       has_compilation_of_one laws.compilation _ seen.files seen.list list path file is.1.operands.front is.1.operands.ending
       (by_script laws.saying (SaysHistory Gives Transcript course) script (seen.script script) file
-      (history_said laws.saying Gives Transcript course (small_limit _ course.limit is.1.limit_is) (λ free. drives.0 (record { list = list; path = path; course = course; script = script; file = file; is_run = is; free = free }))))
+      (history_said laws.saying Gives Transcript course (small_limit _ course.limit is.1.limit_is) (λ free. drives.0 (record { list = list; path = path; course = course; script = script; file = file; is_run = inl is; free = free }))))
   answer_to (command.gen rounds actors) words is drives =
       has_compilation_of_one laws.compilation _ (case_files rounds actors) (case_files rounds actors) None case_path holder_name (codes "PGen") refl
       (by_script laws.saying (SaysHistory Gives (Summary rounds actors) case_course) script_name (case_files rounds actors script_name) holder_name
@@ -76,6 +76,11 @@ module _ (laws : AnswerLaws) (Gives : Driving) (Relays : Relaying) (seen : FileV
       has_compilation_of_one laws.compilation _ seen.files seen.list list path file is.1.operands.front is.1.operands.ending
       (by_script laws.saying (SaysRelayed Relays course) script (seen.script script) file
       (relay_said laws.saying Relays course (small_limit _ course.limit is.1.limit_is) (drives.1 (record { list = list; path = path; course = course; script = script; file = file; is_relay = is }))))
+  answer_to (command.chart list path course script file) [] is drives = absurd is
+  answer_to (command.chart list path course script file) (word ∷ words) is drives =
+      has_compilation_of_one laws.compilation _ seen.files seen.list list path file is.1.operands.front is.1.operands.ending
+      (by_script laws.saying (SaysHistory Gives Chart course) script (seen.script script) file
+      (history_said laws.saying Gives Chart course (small_limit _ course.limit is.1.limit_is) (λ free. drives.0 (record { list = list; path = path; course = course; script = script; file = file; is_run = inr is; free = free }))))
 
   has_answer : (words : List (List ℕ)) → AllByRecursion IsUtf8 words → Drives words → (answer : CommandAnswer) × IsAnswer Gives Relays seen words answer
   has_answer words texts drives =

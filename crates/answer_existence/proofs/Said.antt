@@ -154,7 +154,7 @@ module _ (laws : SayingLaws) where
         → ((before after : WorldView) (ending : RunEnding) → G before after (answer_of ending) → IsMadeUnless Gives course.schedule before after (answer_of ending)) → (answer : CommandAnswer) × SaysHistory Gives shown course schema script answer
     history_of schema script sound schedule e G d made =
         let setting = setting_by schema script course in
-        let answer : CommandAnswer = run_answer shown d.after.setting.schema d.after.state.lines d.ending in (
+        let answer : CommandAnswer = run_answer shown schema d.after.state.lines d.ending in (
           answer,
           says_history laws.runs laws.lawful laws.order laws.owed laws.rests laws.weighed laws.sides Gives shown course schema script (opening_of setting) d.after (answer_of d.ending) answer sound few refl
               (made (opening_of setting) d.after d.ending d.gives) d.about d.stands d.case (record { ending = d.ending; ends = refl; says = refl }),

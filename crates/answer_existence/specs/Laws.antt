@@ -1,9 +1,9 @@
 -- What has an answer: all words that are texts, for all files.
-use Rattle.std.specs.Prelude.{◌≡◌, ℕ, List, Option, None, Some}
+use Rattle.std.specs.Prelude.{◌≡◌, ◌⊎◌, ℕ, List, Option, None, Some}
 use Rattle.std.specs.List.{AllByRecursion}
 use Rattle.std.specs.Str.{IsUtf8}
 use Rattle.command_words.specs.Relay.{IsRelay, RelayCourse}
-use Rattle.command_words.specs.Run.{Course, IsRun}
+use Rattle.command_words.specs.Run.{Course, IsChart, IsRun}
 use Rattle.ipdl_base.specs.Outside.{FileMap}
 use Rattle.ipdl_base.specs.declared.line.Line.{Line}
 use Rattle.ipdl_top.specs.declared.answer.CommandAnswer.{CommandAnswer}
@@ -71,14 +71,14 @@ WordsDriveAll = (word : List Turn) → DrivesAll (λ before after ended. WordGiv
 abbrev pub HasBytes : FileMap → Type 0
 HasBytes files = (name bytes : List ℕ) → files name ≡ Some bytes → AreBytes bytes
 
--- the words run a script, and give no word of turns
+-- the words run a script, to print or to draw its history, and give no word of turns
 pub record RunsFreely (words : List (List ℕ)) : Type 0 where
   pub list : Option (List ℕ)
   pub path : List (List ℕ)
   pub course : Course
   pub script : List ℕ
   pub file : List ℕ
-  pub is_run : IsRun words list path course script file
+  pub is_run : IsRun words list path course script file ⊎ IsChart words list path course script file
   pub free : course.schedule ≡ None
 
 -- the words run a script over two queues

@@ -2,6 +2,7 @@
 
 use super::audit_rows::AUDITS;
 use super::call_rows::{HELLO, LISTED, LISTS, NAMES, REACHES, REPORTS, WORDS};
+use super::chart_rows::CHARTS;
 use super::feed_rows::{FEEDS, IDLE};
 use super::frame_rows::{FLAG, FRAMES};
 use super::relay_rows::RELAYS;
@@ -23,6 +24,7 @@ const USAGE: &str = "usage: ipdl [-s LIST] [--path DIRS] FILES
        ipdl feed [-s LIST] [--path DIRS] [--limit N] --side SIDE SCRIPT FILE FRAMES
        ipdl audit [-s LIST] [--path DIRS] [--limit N] SCRIPT FILE TRANSCRIPT
        ipdl relay [-s LIST] [--path DIRS] [--die SIDE:K] [--limit N] SCRIPT FILE
+       ipdl chart [-s LIST] [--path DIRS] [--schedule WORD] [--limit N] [--die SIDE:K] SCRIPT FILE
 ";
 
 /// A file: its name and its bytes.
@@ -274,6 +276,7 @@ fn calls(rt: HostRuntime) -> Result<(), Fail> {
     assert_eq!(rt; wrong_calls(alloc, FEEDS, IDLE)?.as_str(), "");
     assert_eq!(rt; wrong_calls(alloc, AUDITS, RACE)?.as_str(), "");
     assert_eq!(rt; wrong_calls(alloc, RELAYS, RACE)?.as_str(), "");
+    assert_eq!(rt; wrong_calls(alloc, CHARTS, RACE)?.as_str(), "");
     Ok(())
 }
 

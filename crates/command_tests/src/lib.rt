@@ -8,6 +8,8 @@ mod call_rows;
 #[cfg(test)]
 mod calls;
 #[cfg(test)]
+mod chart_rows;
+#[cfg(test)]
 mod feed_rows;
 #[cfg(test)]
 mod frame_rows;

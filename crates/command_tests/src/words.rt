@@ -1,6 +1,6 @@
 //! What lists of words mean.
 
-use command_words::{Command, Sources, WordsFault, read_words};
+use command_words::{Command, RunOptions, Sources, WordsFault, read_words};
 use ipdl_base::{Side, key_of};
 use schedules::{Stop, Turn};
 use std::alloc::{AllocError, Global};
@@ -9,7 +9,7 @@ use std::test::Fail;
 /// Lists of words, and after `=>` what each means: the sync list after `=`, or `none`; the folders,
 /// with `:` between them; and the files. For the command that prints frames, `<-` and the file of
 /// frames follow, or `<2` if it converts them. After `!` are the script, the file, the word of turns
-/// after `=`, the limit and the death of a run. After `&` are the script, the file, the file of frames,
+/// after `=`, the limit and the death of a run, and after `*` those of a run that is drawn. After `&` are the script, the file, the file of frames,
 /// the side and the limit of a feed. After `^` are the script, the file, the transcript and the limit
 /// of an audit; after `~` the script, the file, the limit and the death of a relay. `%` precedes the
 /// rounds and the actors of a generated case. The meaning is empty if the words are not a command. An
@@ -252,6 +252,21 @@ run -s.ids x.ipdl =>
 run run run.ipdl => none . ! run run.ipdl - 10000 -
 run --to 2 s.ids x.ipdl =>
 -s l run s.ids x.ipdl =>
+chart s.ids x.ipdl => none . * s.ids x.ipdl - 10000 -
+chart -sl s.ids --path d:e --schedule PCpc --limit 7 --die child:9 x.ipdl => =l d:e * s.ids x.ipdl =PCpc 7 child:9
+chart s.ids x.ipdl --schedule=PC => none . * s.ids x.ipdl =PC 10000 -
+chart =>
+chart s.ids =>
+chart x.ipdl =>
+chart s.ids x.ipdlh =>
+chart s.ids x.ipdl y =>
+chart --to 2 s.ids x.ipdl =>
+chart --schedule PX s.ids x.ipdl =>
+chart --limit 0 s.ids x.ipdl =>
+chart --die child s.ids x.ipdl =>
+chart chart chart.ipdl => none . * chart chart.ipdl - 10000 -
+chart.ipdl => none . chart.ipdl
+-s l chart s.ids x.ipdl =>
 gen 1 => % 1 4
 gen 1000 => % 1000 4
 gen 007 => % 7 4
@@ -380,6 +395,23 @@ fn push_sources(line: &mut String, sources: &Sources) -> Result<(), AllocError> 
     push_shared(line, &sources.list, sources.path.as_slice())
 }
 
+/// Appends a command that runs a script, in the form of the rows, with its mark.
+fn push_run(
+    line: &mut String,
+    mark: &str,
+    sources: &Sources,
+    options: &RunOptions,
+) -> Result<(), AllocError> {
+    push_sources(line, sources)?;
+    let script = options.script.as_str();
+    let file = sources.file.as_str();
+    let limit = options.limit;
+    write!(line, "{mark} {script} {file} ")?;
+    push_schedule(line, &options.schedule)?;
+    write!(line, " {limit} ")?;
+    push_death(line, &options.death)
+}
+
 /// Appends a command, in the form of the rows.
 fn push_command(line: &mut String, command: &Command) -> Result<(), AllocError> {
     match command {
@@ -399,16 +431,7 @@ fn push_command(line: &mut String, command: &Command) -> Result<(), AllocError> 
             let file = sources.file.as_str();
             write!(line, "? {file}")
         }
-        Command::Run(sources, options) => {
-            push_sources(line, sources)?;
-            let script = options.script.as_str();
-            let file = sources.file.as_str();
-            let limit = options.limit;
-            write!(line, "! {script} {file} ")?;
-            push_schedule(line, &options.schedule)?;
-            write!(line, " {limit} ")?;
-            push_death(line, &options.death)
-        }
+        Command::Run(sources, options) => push_run(line, "!", sources, options),
         Command::Gen { rounds, actors } => write!(line, "% {rounds} {actors}"),
         Command::Feed(sources, options) => {
             push_sources(line, sources)?;
@@ -435,6 +458,7 @@ fn push_command(line: &mut String, command: &Command) -> Result<(), AllocError> 
             write!(line, "~ {script} {file} {limit} ")?;
             push_death(line, &options.death)
         }
+        Command::Chart(sources, options) => push_run(line, "*", sources, options),
     }
 }
 
@@ -487,7 +511,7 @@ fn checked(alloc: Global) -> Result<String, Fail> {
 
 #[test]
 fn lists_of_words(rt: HostRuntime) -> Result<(), Fail> {
-    assert_eq!(rt; checked(rt.alloc())?.as_str(), "285");
+    assert_eq!(rt; checked(rt.alloc())?.as_str(), "300");
     Ok(())
 }
 

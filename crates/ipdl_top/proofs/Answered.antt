@@ -4,7 +4,7 @@ use Rattle.std.specs.Prelude.{Option, Some, None}
 use Rattle.ipdl_base.specs.Outside.{FileMap}
 use Rattle.ipdl_base.specs.declared.files.TheConstants.{MOST_BYTES}
 use Rattle.transcripts.specs.Compared.{most_text_bytes}
-use Rattle.command_words.specs.Command.{CommandView, IsNoCommand, audit, compile, feed, frames, gen, relay, run, waits}
+use Rattle.command_words.specs.Command.{CommandView, IsNoCommand, audit, chart, compile, feed, frames, gen, relay, run, waits}
 use Rattle.command_words.specs.Feed.{FeedCourse}
 use Rattle.command_words.specs.Relay.{RelayCourse}
 use Rattle.command_words.specs.Run.{Course}
@@ -14,7 +14,7 @@ use Rattle.frame_list.specs.declared.list.FrameListFault.{FrameListFault}
 use Rattle.ipdl_base.specs.declared.schema.Schema.{Schema}
 use Rattle.ipdl_top.specs.declared.answer.CommandAnswer.{CommandAnswer}
 use Rattle.ipdl_top.specs.declared.rendering.Rendering.{Rendering}
-use Rattle.ipdl_top.specs.declared.rendering.Rendering.TheVariants.{Summary, Transcript}
+use Rattle.ipdl_top.specs.declared.rendering.Rendering.TheVariants.{Chart, Summary, Transcript}
 use Rattle.ipdl_top.specs.declared.status.Status.{Status}
 use Rattle.ipdl_top.specs.declared.status.Status.TheVariants.{Done, Broken, Usage, ReadFault, WriteFault, Spent, NoMemory, BadScript, BadFrames, BadTranscript}
 use Rattle.ipdl_top.specs.CommandAnswer.{AnswersTo, IsAnswer, IsCompilation, SaysOf, SaysTables, usage_answer}
@@ -157,6 +157,7 @@ of_says Gives Relays seen (gen rounds actors) = of_run Gives (Summary rounds act
 of_says Gives Relays seen (feed list path course script file name) = of_feed course script (seen.script script) name (seen.input name) file
 of_says Gives Relays seen (audit list path limit script file name) = of_audit limit script (seen.script script) name (seen.input name) file
 of_says Gives Relays seen (relay list path course script file) = of_relay Relays course script (seen.script script) file
+of_says Gives Relays seen (chart list path course script file) = of_run Gives Chart course script (seen.script script) file
 
 of_command : (Gives : Driving) (Relays : Relaying) (seen : FileViews) (command : CommandView) (answer : CommandAnswer) → AnswersTo Gives Relays seen command answer → IsSaidSo answer
 of_command Gives Relays seen command answer h =

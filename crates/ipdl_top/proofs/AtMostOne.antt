@@ -43,7 +43,7 @@ use Rattle.ipdl_top.specs.Audit.{SaysAudit}
 use Rattle.ipdl_top.specs.Feed.{SaysFeed}
 use Rattle.ipdl_top.specs.Frames.{SaysBytes, SaysFrames, frames_answer, frames_out}
 use Rattle.ipdl_top.specs.Laws.{LeavesNothing, OneAnswer}
-use Rattle.ipdl_top.specs.declared.rendering.Rendering.TheVariants.{Summary, Transcript}
+use Rattle.ipdl_top.specs.declared.rendering.Rendering.TheVariants.{Chart, Summary, Transcript}
 use Rattle.ipdl_top.specs.Gen.{SaysGen, case_course, case_files, holder_name, script_name}
 use Rattle.ipdl_top.specs.Inputs.{absent_answer, larger_answer}
 use Rattle.ipdl_top.specs.Relay.{Relaying}
@@ -230,6 +230,7 @@ compilations_such laws IsSuch Says unique given lists list one other such (inr (
 -- which answer a command leaves to no driver: any, except that of a run without a word of turns, and that a side of a relay is spent
 abbrev LeavesNone : CommandView → CommandAnswer → Type 0
 LeavesNone (command.run list path course script file) one = course.schedule ≢ None
+LeavesNone (command.chart list path course script file) one = course.schedule ≢ None
 LeavesNone (command.relay list path course script file) one = one.status ≢ Spent
 LeavesNone _ one = Unit {0}
 
@@ -242,6 +243,7 @@ leaves_none words (command.gen rounds actors) one said leaves = tt
 leaves_none words (command.feed list path course script file name) one said leaves = tt
 leaves_none words (command.audit list path limit script file name) one said leaves = tt
 leaves_none words (command.relay list path course script file) one said leaves = leaves.1 list path course script file said
+leaves_none words (command.chart list path course script file) one said leaves = leaves.2 list path course script file said
 
 -- a command says one thing of a schema, if it leaves the answer to no driver
 of_any : (Says : Schema → CommandAnswer → Type 0) → SaysOne Says → SaysOneSuch IsAny Says
@@ -259,6 +261,7 @@ says_one laws Gives Relays seen (command.feed list path course script file name)
 says_one laws Gives Relays seen (command.audit list path limit script file name) =
     of_any (SaysAudit limit script (seen.script script) name (seen.input name) file) (audit_one laws.audits limit script (seen.script script) name (seen.input name) file)
 says_one laws Gives Relays seen (command.relay list path course script file) = relay_one laws.relays Relays course script (seen.script script) file
+says_one laws Gives Relays seen (command.chart list path course script file) = λ a b same one other leaves. run_one laws.runs Gives Chart course leaves script (seen.script script) file a b same one other
 
 -- so has each command
 commands : TheLaws → (Gives : Driving) (Relays : Relaying) (seen : FileViews) (command : CommandView) (one other : CommandAnswer) → LeavesNone command one → AnswersTo Gives Relays seen command one → AnswersTo Gives Relays seen command other → one ≡ other

@@ -1,6 +1,6 @@
 -- What a command answers, by what was found of the files that it reads.
 use Rattle.std.proofs.Common.{List, ℕ, [], ◌∷◌, codes, refl}
-use Rattle.command_words.specs.Command.{CommandView, Say, audit, compile, feed, frames, gen, relay, run, waits}
+use Rattle.command_words.specs.Command.{CommandView, Say, audit, chart, compile, feed, frames, gen, relay, run, waits}
 use Rattle.ipdl_top.specs.CommandAnswer.{AnswersTo, SaysOf}
 use Rattle.ipdl_top.specs.FileViews.{FileViews}
 use Rattle.std.specs.Prelude.{None}
@@ -28,6 +28,7 @@ HasOwnTop (gen rounds actors) checked = HasTop holder_name checked
 HasOwnTop (feed list path course script file name) checked = HasTop file checked
 HasOwnTop (audit list path limit script file name) checked = HasTop file checked
 HasOwnTop (relay list path course script file) checked = HasTop file checked
+HasOwnTop (chart list path course script file) checked = HasTop file checked
 
 -- so it is where words say the command
 pub own_top : (command : CommandView) (words : List (List ℕ)) (seen : FileViews) (found : FoundFiles) → Say words command → AreFound (files_by command) seen found → HasOwnTop command found.checked
@@ -45,6 +46,8 @@ own_top (audit list path limit script file name) [] seen found said are = absurd
 own_top (audit list path limit script file name) (word ∷ words) seen found said are = has_top (given_by seen.files path (file ∷ [])) seen.list list file said.1.operands.front refl said.1.operands.ending found.checked are.checked
 own_top (relay list path course script file) [] seen found said are = absurd said
 own_top (relay list path course script file) (word ∷ words) seen found said are = has_top (given_by seen.files path (file ∷ [])) seen.list list file said.1.operands.front refl said.1.operands.ending found.checked are.checked
+own_top (chart list path course script file) [] seen found said are = absurd said
+own_top (chart list path course script file) (word ∷ words) seen found said are = has_top (given_by seen.files path (file ∷ [])) seen.list list file said.1.operands.front refl said.1.operands.ending found.checked are.checked
 
 -- Answers
 

@@ -23,5 +23,6 @@ pub mod OneAudit
 pub mod Scripted
 pub mod Feeds
 pub mod Summed
+pub mod Charted
 pub mod Relays
 mod Audits

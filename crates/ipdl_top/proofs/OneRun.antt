@@ -1,5 +1,5 @@
 -- A script has one answer where its run goes by a word of turns.
-use Rattle.std.proofs.Common.{◌≡◌, ◌≢◌, ◌∙◌, ℕ, List, refl, sym, ap}
+use Rattle.std.proofs.Common.{◌≡◌, ◌≢◌, ◌∙◌, ◌++◌, ℕ, List, refl, sym, ap}
 use Rattle.std.specs.Prelude.{Option, None, Some}
 use Rattle.ipdl_base.specs.declared.line.Line.{Line}
 use Rattle.ipdl_base.specs.declared.schema.Schema.{Schema}
@@ -10,15 +10,17 @@ use Rattle.handler_script.specs.declared.script.Script.{Script}
 use Rattle.handler_script.specs.Plain.{plain_script}
 use Rattle.schema_laws.specs.Runs.{AreSettingsAlike, PicksAlike, ScriptsAlike, TextsAlike}
 use Rattle.schedules.specs.declared.turn.Turn.{Turn}
+use Rattle.script_runs.specs.Endings.{ending_line}
 use Rattle.script_steps.specs.Choices.{Setting, beginning_of}
 use Rattle.script_steps.specs.Laws.{WordsHaveOneResult}
 use Rattle.script_steps.specs.Turns.{Picks, RunEnding, at_limit, at_rest}
 use Rattle.world_core.specs.WorldView.{WorldView, opening_of}
 use Rattle.ipdl_top.specs.declared.answer.CommandAnswer.{CommandAnswer}
 use Rattle.ipdl_top.specs.declared.rendering.Rendering.{Rendering}
-use Rattle.ipdl_top.specs.declared.rendering.Rendering.TheVariants.{Summary, Transcript}
-use Rattle.ipdl_top.specs.Ended.{answer_of, ended_answer}
+use Rattle.ipdl_top.specs.declared.rendering.Rendering.TheVariants.{Chart, Summary, Transcript}
+use Rattle.ipdl_top.specs.Ended.{answer_of, answer_with, spent_side}
 use Rattle.ipdl_top.specs.Run.{Driving, IsMade, SaysHistory, SaysRun, rendered, run_answer, setting_by}
+use Rattle.ipdl_top.proofs.Charted.{charted_alike}
 use Rattle.ipdl_top.proofs.OneScript.{IsAny, script_one}
 
 -- the laws that a run rests on
@@ -33,15 +35,16 @@ picked_by : (Gives : Driving) (word : List Turn) (before after : WorldView) (end
 picked_by Gives word before after at_rest made = made
 picked_by Gives word before after (at_limit side) made = made
 
--- the text of lines under schemas that are the same up to boxes: a summary looks at no schema
-one_text : TextsAlike → (shown : Rendering) (a b : Schema) → AreSchemasAlike a b → (lines : List Line) → rendered shown a lines ≡ rendered shown b lines
-one_text texts Transcript a b alike lines = texts a b alike lines
-one_text texts (Summary rounds actors) a b alike lines = refl
+-- what is printed of lines under schemas that are the same up to boxes: a summary looks at no schema
+one_text : TextsAlike → (shown : Rendering) (a b : Schema) → AreSchemasAlike a b → (lines : List Line) (ending : RunEnding) → rendered shown a lines ending ≡ rendered shown b lines ending
+one_text texts Transcript a b alike lines ending = ap (λ (text : List ℕ). text ++ ending_line ending) (texts a b alike lines)
+one_text texts (Summary rounds actors) a b alike lines ending = refl
+one_text texts Chart a b alike lines ending = charted_alike a b alike lines (spent_side ending)
 
 -- the answer of a run under such schemas
 same_text : TextsAlike → (shown : Rendering) (a b : Schema) → AreSchemasAlike a b → (s t : RunState) (e f : RunEnding) → s ≡ t → e ≡ f → run_answer shown a s.lines e ≡ run_answer shown b t.lines f
 same_text texts shown a b alike s t e f states endings =
-    ap (λ (text : List ℕ). ended_answer text e) (one_text texts shown a b alike s.lines)
+    ap (λ (out : List ℕ). answer_with out e) (one_text texts shown a b alike s.lines e)
     ∙ ap (λ (state : RunState). run_answer shown b state.lines e) states ∙ ap (run_answer shown b t.lines) endings
 
 word_one : RunLaws → (Gives : Driving) (word : List Turn) (S T : Setting) → AreSettingsAlike S T → (after other : WorldView) (e f : RunEnding)

@@ -38,7 +38,7 @@ use Rattle.script_runs.specs.Laws.{RestOfCasesIsStill}
 use Rattle.order_statements.specs.Lawful.{HistoriesAreLawful, IsLawfulHistory}
 use Rattle.ipdl_top.specs.declared.answer.CommandAnswer.{CommandAnswer}
 use Rattle.ipdl_top.specs.Relay.{Relaying, SaysRelayed, half_lines, halves_text, relay_setting}
-use Rattle.ipdl_top.specs.Ended.{IsEndedAnswer, answer_of}
+use Rattle.ipdl_top.specs.Ended.{IsEndedAnswer, answer_of, ended_answer}
 use Rattle.ipdl_top.proofs.Runs.{rests_so, weighed_so}
 
 -- a world that is as one begins begins itself
@@ -93,7 +93,7 @@ prints_so setting state ending one ends = record {
 }
 
 pub says_relayed : RelayedLaws → (Relays : Relaying) (course : RelayCourse) (schema : Schema) (script : Script) (opened : WorldView) (halves : Halves) (ended : RunAnswer) (answer : CommandAnswer)
-    → IsSound schema → course.limit ≤ most_events → opened ≡ opening_of (relay_setting schema script course) → RelayGives Relays opened halves ended → IsRelayed opened.setting halves ended → IsEndedAnswer (halves_text schema halves) ended answer → SaysRelayed Relays course schema script answer
+    → IsSound schema → course.limit ≤ most_events → opened ≡ opening_of (relay_setting schema script course) → RelayGives Relays opened halves ended → IsRelayed opened.setting halves ended → IsEndedAnswer (ended_answer (halves_text schema halves)) ended answer → SaysRelayed Relays course schema script answer
 says_relayed laws Relays course schema script opened halves ended answer sound few opens gives relayed printed =
     let setting : Setting = relay_setting schema script course in
     let about : opened.setting ≡ setting = ap (λ (w : WorldView). w.setting) opens in

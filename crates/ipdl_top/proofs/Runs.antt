@@ -31,7 +31,7 @@ use Rattle.order_statements.specs.Lawful.{HistoriesAreLawful, IsLawfulHistory}
 use Rattle.ipdl_top.specs.declared.answer.CommandAnswer.{CommandAnswer}
 use Rattle.ipdl_top.specs.declared.rendering.Rendering.{Rendering}
 use Rattle.ipdl_top.specs.Ended.{IsEndedAnswer, answer_of}
-use Rattle.ipdl_top.specs.Run.{Driving, IsMade, SaysHistory, rendered, run_answer, setting_by}
+use Rattle.ipdl_top.specs.Run.{Driving, IsMade, SaysHistory, run_answer, setting_by}
 use Rattle.ipdl_top.specs.RunSteps.{IsMadeUnless}
 
 -- a run that did not run out of memory was made
@@ -68,7 +68,7 @@ weighed_so weighed schema sound top lines legal = subst (λ (ls : List Line). by
 -- answer says.
 pub says_history : ChoicesAreRuns → HistoriesAreLawful → HistoriesKeepOrder → HistoriesGiveWhatIsOwed → StillWorldsRest → HistoriesAreWeighed → SidesObeyAlone → (Gives : Driving) (shown : Rendering) (course : Course) (schema : Schema) (script : Script) (opened after : WorldView) (ended : RunAnswer) (answer : CommandAnswer)
     → IsSound schema → course.limit ≤ most_events → opened ≡ opening_of (setting_by schema script course) → IsMadeUnless Gives course.schedule opened after ended → after.setting ≡ opened.setting → StandsAs after ended → IsCase after
-    → IsEndedAnswer (rendered shown after.setting.schema after.state.lines) ended answer → SaysHistory Gives shown course schema script answer
+    → IsEndedAnswer (run_answer shown schema after.state.lines) ended answer → SaysHistory Gives shown course schema script answer
 says_history runs lawful order owed rests weighed alone Gives shown course schema script opened after ended answer sound few opens made same stands case' printed =
     let setting : Setting = setting_by schema script course in
     let about : after.setting ≡ setting = same ∙ ap (λ (w : WorldView). w.setting) opens in
@@ -97,5 +97,5 @@ says_history runs lawful order owed rests weighed alone Gives shown course schem
       weighed = weighed_so weighed schema sound script.top after.state.lines legal;
       alone = alone setting after.state.lines sound (omega (arith, few)) (subst (λ (s : Setting). IsCaseHistory s after.state.lines) about case'.history);
       legal_text = subst (λ (s : Setting). IsLegalText s (transcript_text s.schema after.state.lines ++ ending_line printed.ending)) about (prints_legal after printed.ending case' stands_so);
-      says = printed.says ∙ ap (λ (s : Setting). run_answer shown s.schema after.state.lines printed.ending) about;
+      says = printed.says;
     }

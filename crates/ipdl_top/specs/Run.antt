@@ -1,4 +1,4 @@
--- What the command that runs a script says of a schema.
+-- What the commands that run a script say of a schema.
 use Rattle.std.specs.Prelude.{◌≡◌, ◌≤◌, ◌*◌, ℕ, List, ◌++◌, Option, Some, None}
 use Rattle.ipdl_base.specs.declared.kinds.Side.{Side}
 use Rattle.ipdl_base.specs.declared.line.Line.{Line}
@@ -6,6 +6,7 @@ use Rattle.ipdl_base.specs.declared.schema.Schema.{Schema}
 use Rattle.command_words.specs.Run.{Course}
 use Rattle.channel_model.specs.Runs.{IsLegalHistory}
 use Rattle.handler_script.specs.declared.script.Script.{Script}
+use Rattle.charts.specs.Chart.{chart_text}
 use Rattle.generated_case.specs.Counts.{counts_of}
 use Rattle.generated_case.specs.Summary.{summary_text}
 use Rattle.history.specs.Text.{transcript_text}
@@ -31,7 +32,7 @@ use Rattle.law_statements.specs.Waits.{Waits}
 use Rattle.ipdl_top.specs.declared.answer.CommandAnswer.{CommandAnswer}
 use Rattle.ipdl_top.specs.declared.rendering.Rendering.{Rendering}
 use Rattle.ipdl_top.specs.declared.rendering.Rendering.TheVariants as rendering
-use Rattle.ipdl_top.specs.Ended.{answer_of, ended_answer}
+use Rattle.ipdl_top.specs.Ended.{answer_of, answer_with, spent_side}
 use Rattle.ipdl_top.specs.Scripts.{SaysByScript}
 
 -- what a driver gives: the world before, the world after, and how the run ended
@@ -47,14 +48,16 @@ IsMade Gives (Some word) before after ending = WordGives before word ending afte
 abbrev pub setting_by : Schema → Script → Course → Setting
 setting_by schema script course = record { schema = schema; script = script; stop = course.death; limit = course.limit }
 
--- the text of a history: its transcript, or its summary
-abbrev pub rendered : Rendering → Schema → List Line → List ℕ
-rendered rendering.Transcript schema lines = transcript_text schema lines
-rendered (rendering.Summary rounds actors) schema lines = summary_text rounds actors (counts_of lines)
+-- what is printed of a history and of how the run ended: its transcript or its summary, and after it the line of the ending; or
+-- its picture
+abbrev pub rendered : Rendering → Schema → List Line → RunEnding → List ℕ
+rendered rendering.Transcript schema lines ending = transcript_text schema lines ++ ending_line ending
+rendered (rendering.Summary rounds actors) schema lines ending = summary_text rounds actors (counts_of lines) ++ ending_line ending
+rendered rendering.Chart schema lines ending = chart_text schema lines (spent_side ending)
 
--- the answer that is a text of a history, and after it how the run ended
+-- the answer that is what is printed of a history
 abbrev pub run_answer : Rendering → Schema → List Line → RunEnding → CommandAnswer
-run_answer shown schema lines ending = ended_answer (rendered shown schema lines) ending
+run_answer shown schema lines ending = answer_with (rendered shown schema lines ending) ending
 
 -- The answer is one history of both ends. It is made by the word or as the driver has it, and is the script's own and legal.
 -- It can be read, and all five laws hold of it: what is delivered is what was sent; what is taken goes to the living actor

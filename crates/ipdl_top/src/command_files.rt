@@ -75,10 +75,12 @@ pub fn files_of_command(command: &Command) -> CommandFiles<'_>
             ..sources_of(sources)
         }),
         Command::Waits(sources) => CommandFiles::Named(sources_of(sources)),
-        Command::Run(sources, options) => CommandFiles::Named(NamedFiles {
-            script: Some(options.script.as_str()),
-            ..sources_of(sources)
-        }),
+        Command::Run(sources, options) | Command::Chart(sources, options) => {
+            CommandFiles::Named(NamedFiles {
+                script: Some(options.script.as_str()),
+                ..sources_of(sources)
+            })
+        }
         Command::Gen { rounds, actors } => CommandFiles::Case(*rounds, *actors),
         Command::Feed(sources, options) => CommandFiles::Named(NamedFiles {
             script: Some(options.script.as_str()),

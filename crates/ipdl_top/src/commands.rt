@@ -14,6 +14,7 @@ use crate::frames::answer_frames;
 use crate::generation::case_request;
 use crate::reading::FoundFiles;
 use crate::relay::answer_relay;
+use crate::rendering::Rendering;
 use crate::run::{answer_run, run_request};
 use crate::waits::answer_waits;
 use command_words::Command;
@@ -45,7 +46,7 @@ pub fn answer_command<D: Driver, Q: Relay>(
         Command::Frames(_, options) => answer_frames(alloc, checked, options, &input),
         Command::Waits(sources) => answer_waits(alloc, checked, sources.file.as_str()),
         Command::Run(sources, options) => {
-            let request = run_request(sources, options);
+            let request = run_request(sources, options, Rendering::Transcript);
             answer_run(alloc, checked, &request, &script, driver)
         }
         Command::Gen { rounds, actors } => {
@@ -81,6 +82,10 @@ pub fn answer_command<D: Driver, Q: Relay>(
                 &script,
                 relay,
             )
+        }
+        Command::Chart(sources, options) => {
+            let request = run_request(sources, options, Rendering::Chart);
+            answer_run(alloc, checked, &request, &script, driver)
         }
     }
 }

@@ -3,6 +3,7 @@ ghost use Rattle.std.specs.Prelude.{◌≡◌, ◌≤◌, ℕ, IfOk, List, Optio
 ghost use Rattle.command_words.specs.Command.{relay_course};
 ghost use Rattle.ipdl_base.specs.Sound.{IsSound};
 ghost use Rattle.world_core.specs.Worlds.{most_events};
+ghost use Rattle.ipdl_top.specs.Ended as told;
 ghost use Rattle.ipdl_top.specs.Ended.{IsEndedAnswer};
 ghost use Rattle.ipdl_top.specs.Relay.{SaysRelay, SaysRelayed, half_lines, halves_text};
 ghost use Rattle.ipdl_top.specs.Steps.{HasTop, IsHeld, IsSmall, IsSoundChecked, IsToldOf};
@@ -57,7 +58,7 @@ fn halves_answer(
     ending: RunAnswer,
 ) -> Result<CommandAnswer, AllocError>
     requires { IsSound schema.now }
-    ensures { IfOk result (IsEndedAnswer (halves_text schema.now halves) ending) }
+    ensures { IfOk result (IsEndedAnswer (told.ended_answer (halves_text schema.now halves)) ending) }
 {
     let text = text_of_halves(alloc, schema, &halves);
     keep_until_exit(halves);

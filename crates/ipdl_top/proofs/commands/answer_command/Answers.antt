@@ -139,8 +139,8 @@ answer_relay-requires-clause-top g c =
     subst (λ (file : List ℕ). HasTop file c.args.found.checked) (sym c.as_str-in-Relay.ensures.value)
     (subst (λ (command : Command). HasOwnTop (view_of command) c.args.found.checked) c.in-Relay.is (own_top (view_of c.args.command.now) c.requires.said.0 c.requires.found.0 c.args.found c.requires.said.1 c.requires.found.1))
 
-pub returns : goal.returns
-returns g c =
+pub returns-in-Relay : goal.returns-in-Relay
+returns-in-Relay g c =
     let Gives = g.D.Driver.Gives c.args.driver.now in
     let Relays = g.Q.Relay.Gives c.args.relay.now in
     let found = c.args.found in
@@ -151,3 +151,25 @@ returns g c =
     let options = c.in-Relay.options in
     let text = seen.script (string_bytes options.script) in
     subst (λ (file : List ℕ). IsToldOf (SaysRelay Relays (relay_course options) (string_bytes options.script) text file) found.checked answer) c.as_str-in-Relay.ensures.value (told text are.script)))) c.answer_relay.ensures
+
+pub answer_run-requires-in-Chart-clause-top : goal.answer_run-requires-in-Chart-clause-top
+answer_run-requires-in-Chart-clause-top g c =
+    subst (λ (file : List ℕ). HasTop file c.args.found.checked) (sym c.run_request-request-in-Chart.ensures.file)
+    (subst (λ (command : Command). HasOwnTop (view_of command) c.args.found.checked) c.in-Chart.is (own_top (view_of c.args.command.now) c.requires.said.0 c.requires.found.0 c.args.found c.requires.said.1 c.requires.found.1))
+
+pub returns : goal.returns
+returns g c =
+    let Gives = g.D.Driver.Gives c.args.driver.now in
+    let Relays = g.Q.Relay.Gives c.args.relay.now in
+    let found = c.args.found in
+    IfOk-weaker c.answer_run-in-Chart.result _ _
+    (λ answer told. of_found Gives Relays (view_of c.args.command.now) found answer
+    (subst (λ (command : Command). IsToldFound Gives Relays (view_of command) found answer) (sym c.in-Chart.is)
+    (λ seen are.
+    let text = seen.script (string_bytes c.in-Chart.options.script) in
+    let Is : Rendering → Course → List ℕ → List ℕ → Type 0 = λ shown course script file. IsToldOf (SaysRun Gives shown course script text file) found.checked answer in
+    let request = c.run_request-request-in-Chart.result in
+    subst (λ (shown : Rendering). Is shown (run_course c.in-Chart.options) (string_bytes c.in-Chart.options.script) (string_bytes c.in-Chart.sources.file)) c.run_request-request-in-Chart.ensures.rendering
+    (subst (λ (course : Course). Is request.rendering course (string_bytes c.in-Chart.options.script) (string_bytes c.in-Chart.sources.file)) c.run_request-request-in-Chart.ensures.course
+    (subst (λ (script : List ℕ). Is request.rendering (course_of request) script (string_bytes c.in-Chart.sources.file)) c.run_request-request-in-Chart.ensures.script
+    (subst (Is request.rendering (course_of request) request.script.now) c.run_request-request-in-Chart.ensures.file (told text are.script))))))) c.answer_run-in-Chart.ensures

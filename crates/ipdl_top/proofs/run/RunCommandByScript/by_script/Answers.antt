@@ -1,7 +1,12 @@
+use Rattle.std.proofs.Common.{◌∙◌, ap}
 use Rattle.std.proofs.lemmas.Result.{IfOk-weaker}
+use Rattle.world_core.specs.WorldView.{WorldView}
 use Rattle.ipdl_top.specs.RunSteps.{course_of}
 use Rattle.ipdl_top.proofs.Runs.{says_history}
 use Rattle.ipdl_top.proofs.run.RunCommandByScript.by_script.Goals as goal
+
+pub world_answer-requires-clause-about : goal.world_answer-requires-clause-about
+world_answer-requires-clause-about g c = ap (λ setting. setting.schema) (c.driven-world.ensures.same ∙ ap (λ (w : WorldView). w.setting) c.in_ok-world.ensures.opened)
 
 pub returns : goal.returns
 returns g c =
