@@ -1,0 +1,12 @@
+//! A history as a picture: one SVG document, with two lifelines and a row for each line of the history.
+#![tactic(auto)]
+
+mod chart;
+mod escapes;
+mod labels;
+mod marks;
+mod rows;
+mod strokes;
+mod tally;
+
+pub use chart::chart_text;
