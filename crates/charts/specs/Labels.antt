@@ -15,14 +15,14 @@ abbrev pub is_continuation : ℕ → Bool
 is_continuation byte = nat_lt 127 byte && nat_lt byte 192
 
 -- How many bytes of values and the bracket after them are kept, if they have more than so many characters before it.
-unfoldable pub kept_values : ℕ → List ℕ → Option ℕ
+abbrev pub kept_values : ℕ → List ℕ → Option ℕ
 kept_values left [] = None
 kept_values left (byte ∷ rest) =
     if is_continuation byte then option_map suc (kept_values left rest) else
     (if left == 0 then (if length rest == 0 then None else Some 0) else option_map suc (kept_values (left - 1) rest))
 
 -- How many bytes of a line are kept, if its values, which are in brackets at its end, have more than 40 characters.
-unfoldable pub kept_length : List ℕ → Option ℕ
+abbrev pub kept_length : List ℕ → Option ℕ
 kept_length [] = None
 kept_length (byte ∷ rest) = option_map suc (if byte == 40 then kept_values 40 rest else kept_length rest)
 

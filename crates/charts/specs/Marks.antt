@@ -92,6 +92,10 @@ send_at rows place n (Some left) = lazy_at rows place n left
 abbrev pub call_at : HistoryRows → Place → ℤ → List ℕ
 call_at rows place n = bar_at rows place wait_style (rows.reply_departures n) ++ arrow_at Sync place (rows.arrivals n)
 
+-- the arrow of a goodbye, or of a death
+abbrev pub farewell_at : HistoryRows → Place → List ℕ
+farewell_at rows place = arrow_at Farewell place (rows_of rows (other place.side)).farewell
+
 -- a cross on the lifeline, where an actor falls
 abbrev pub cross : Place → List ℕ
 cross place =
@@ -109,7 +113,7 @@ marks rows place (what.AnswerFault n reason) = arrow_at Reply place (rows.reply_
 marks rows place (what.DeliverRequest n) = item_at rows place (rows.departures n)
 marks rows place (what.DeliverReply n) = item_at rows place (rows.reply_departures n)
 marks rows place (what.Take n route message values) = bar_at rows place dispatch_style (rows.returns n)
-marks rows place what.Close = arrow_at Farewell place (rows_of rows (other place.side)).farewell
-marks rows place what.Die = arrow_at Farewell place (rows_of rows (other place.side)).farewell
+marks rows place what.Close = farewell_at rows place
+marks rows place what.Die = farewell_at rows place
 marks rows place (what.Fall id destroy) = cross place
 marks rows place _ = []

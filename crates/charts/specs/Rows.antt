@@ -1,5 +1,5 @@
 -- Where the things happen in a history that arrows, bars and waiting items join. A row is the index of a line.
-use Rattle.std.specs.Prelude.{ℕ, ℤ, suc, Bool, true, false, ◌&&◌, not, if◌then◌else◌, List, [], ◌∷◌, Option, Some, None, is_some, unwrap_or}
+use Rattle.std.specs.Prelude.{ℕ, ℤ, ◌+◌, Bool, true, false, ◌&&◌, not, if◌then◌else◌, List, [], ◌∷◌, Option, Some, None, is_some, unwrap_or}
 use Rattle.std.specs.List.{list_any, count_by}
 use Rattle.std.specs.Option.{option_map_or}
 use Rattle.std.specs.Ordering.{int_eq}
@@ -47,9 +47,9 @@ abbrev pub is_number : ℤ → Option ℤ → Bool
 is_number n given = option_map_or (λ m. int_eq m n) given false
 
 -- the first row that gives a number, of lines from a row on
-unfoldable pub row_from : ℕ → (What → Option ℤ) → List Line → ℤ → Option ℕ
+abbrev pub row_from : ℕ → (What → Option ℤ) → List Line → ℤ → Option ℕ
 row_from row number [] n = None
-row_from row number (line ∷ rest) n = if is_number n (number line.what) then Some row else row_from (suc row) number rest n
+row_from row number (line ∷ rest) n = if is_number n (number line.what) then Some row else row_from (row + 1) number rest n
 
 -- Lazy sends
 
@@ -76,15 +76,15 @@ empties_outbox schema what.Die = true
 empties_outbox schema _ = false
 
 -- the first row from which a test holds of a line of a side
-unfoldable pub side_row_from : ℕ → Side → (What → Bool) → List Line → Option ℕ
+abbrev pub side_row_from : ℕ → Side → (What → Bool) → List Line → Option ℕ
 side_row_from row side test [] = None
-side_row_from row side test (line ∷ rest) = if same_side line.side side && test line.what then Some row else side_row_from (suc row) side test rest
+side_row_from row side test (line ∷ rest) = if same_side line.side side && test line.what then Some row else side_row_from (row + 1) side test rest
 
 -- the row at which a lazy send leaves, if it does; nothing of a request that is not sent lazily
-unfoldable pub leave_from : ℕ → Schema → List Line → ℤ → Option (Option ℕ)
+abbrev pub leave_from : ℕ → Schema → List Line → ℤ → Option (Option ℕ)
 leave_from row schema [] n = None
 leave_from row schema (line ∷ rest) n =
-    if is_number n (lazy_send schema line.what) then Some (side_row_from (suc row) line.side (empties_outbox schema) rest) else leave_from (suc row) schema rest n
+    if is_number n (lazy_send schema line.what) then Some (side_row_from (row + 1) line.side (empties_outbox schema) rest) else leave_from (row + 1) schema rest n
 
 -- Sides
 
@@ -103,10 +103,10 @@ is_end what.ShutAbnormal = true
 is_end _ = false
 
 -- the last row of a side, of lines from a row on
-unfoldable pub last_row_from : ℕ → Side → List Line → Option ℕ
+abbrev pub last_row_from : ℕ → Side → List Line → Option ℕ
 last_row_from row side [] = None
 last_row_from row side (line ∷ rest) =
-    if is_some (last_row_from (suc row) side rest) then last_row_from (suc row) side rest else
+    if is_some (last_row_from (row + 1) side rest) then last_row_from (row + 1) side rest else
     (if same_side line.side side then Some row else None)
 
 -- whether a side ends

@@ -201,6 +201,14 @@ fn push_cross(out: &mut Vec<u8>, place: Place) -> Result<(), AllocError>
     )
 }
 
+/// Appends the arrow of a goodbye, or of a death.
+fn push_farewell_at(out: &mut Vec<u8>, rows: &Rows, place: Place) -> Result<(), AllocError>
+    ensures { OnOk result (out.new.items ≡ out.old.items ++ mark.farewell_at (noted rows.now) place) }
+{
+    let to = rows.of_side(place.side.other()).farewell;
+    push_arrow_at(out, Arrow::Farewell, place, to)
+}
+
 /// Appends what is drawn of a line at its place: arrows, bars, what waits, and falls.
 pub fn push_marks(
     out: &mut Vec<u8>,
@@ -231,14 +239,7 @@ pub fn push_marks(
             push_item_at(out, rows, place, rows.reply_departures.get(number).copied())
         }
         What::Take(number, ..) => push_take_at(out, rows, place, *number),
-        What::Close | What::Die => {
-            push_arrow_at(
-                out,
-                Arrow::Farewell,
-                place,
-                rows.of_side(place.side.other()).farewell,
-            )
-        }
+        What::Close | What::Die => push_farewell_at(out, rows, place),
         What::Fall(..) => push_cross(out, place),
         _ => Ok(()),
     }

@@ -224,12 +224,15 @@ impl SideRows {
         requires { IsSound schema.now }
         ensures { (rest : List TheLine) → self ≡ side_rows schema.now (row + 1) side rest → result ≡ side_rows schema.now row side (line.now ∷ rest) }
     {
-        let own = line.side == side;
+        if line.side != side {
+            return self;
+        }
+        let what = &line.what;
         SideRows {
-            last: first_row(own && self.last.is_none(), row, self.last),
-            ended: own && is_end(&line.what) || self.ended,
-            farewell: first_row(own && is_farewell(&line.what), row, self.farewell),
-            leave: first_row(own && empties_outbox(schema, &line.what), row, self.leave),
+            last: first_row(self.last.is_none(), row, self.last),
+            ended: is_end(what) || self.ended,
+            farewell: first_row(is_farewell(what), row, self.farewell),
+            leave: first_row(empties_outbox(schema, what), row, self.leave),
         }
     }
 }

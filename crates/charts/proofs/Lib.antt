@@ -1,0 +1,6 @@
+mod Cuts
+mod Known
+mod Pieces
+mod RowLemmas
+mod Slices
+mod Tallied
