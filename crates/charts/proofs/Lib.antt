@@ -1,0 +1,6 @@
+mod Contents
+mod Drawn
+mod Joined
+mod Joins
+mod RowLines
+mod WellFormed
