@@ -1,14 +1,15 @@
 -- Pieces of content side by side, and shown texts as content.
-use Rattle.std.proofs.Common.{◌≡◌, ◌≢◌, ℕ, suc, zero, ◌+◌, ◌<◌, ◌/◌, ◌%◌, ◌==◌, Bool, true, false, cond, not, nat_lt, ◌&&◌, ◌||◌, List, [], ◌∷◌, ◌++◌, refl, sym, ap, subst, ◌∙◌, arith, true≢false, append_assoc, IsTrue, Option, Some, None}
+use Rattle.std.proofs.Common.{◌≡◌, ◌≢◌, ℕ, suc, zero, ◌+◌, ◌<◌, ◌/◌, ◌%◌, ◌==◌, Bool, true, false, cond, not, nat_lt, ◌&&◌, ◌||◌, List, [], ◌∷◌, ◌++◌, refl, sym, ap, subst, arith, append_assoc, IsTrue, Option, Some, None}
 use Rattle.std.specs.Prelude.{codes, take}
 use Rattle.std.specs.List.{flat_map, list_all}
 use Rattle.std.specs.Fmt.{decimal, digits, digits_onto}
 use Rattle.std.proofs.lemmas.List.{append-nil}
-use Rattle.std.proofs.lemmas.Bool.{eqb-true, lt-ltb, ltb-true, ltb-false}
+use Rattle.std.proofs.lemmas.Bool.{lt-ltb, ltb-false, ltb-true, ne_eqb}
 use Rattle.value_types.specs.ValueText.{hex_digit}
 use Rattle.charts.specs.Documents.{AreAttributes, Attribute, IsContent, nothing, character, entity, empty, around, less, greater, ampersand, element_around, empty_element, is_character, is_name, is_value_byte}
 use Rattle.charts.specs.Escapes.{is_wide, shown, xml_byte}
 use Rattle.charts.specs.Labels.{cut, cut_by, ellipsis, kept_length}
+use Rattle.charts.proofs.Tests.{both_hold, first_of_both, second_of_both}
 
 -- Side by side
 
@@ -31,17 +32,6 @@ alone_around name attributes content named are inner = subst IsContent (append-n
 
 -- Characters
 
-first_of_both : (a b : Bool) → a && b ≡ true → a ≡ true
-first_of_both true b h = refl
-first_of_both false b h = h
-
-second_of_both : (a b : Bool) → a && b ≡ true → b ≡ true
-second_of_both true b h = h
-second_of_both false b h = absurd (true≢false (sym h))
-
-pub both_hold : (a b : Bool) → a ≡ true → b ≡ true → a && b ≡ true
-both_hold a b e f = ap (λ (c : Bool). c && b) e ∙ f
-
 -- characters by themselves are content
 pub characters : (text : List ℕ) → IsTrue (list_all is_character text) → IsContent text
 characters [] is = nothing
@@ -55,22 +45,12 @@ character_of byte printed a b c = rw (printed, a, b, c) (either (byte == 10))
     either true = refl
     either false = refl
 
-no_test : (byte mark : ℕ) → byte ≢ mark → (byte == mark) ≡ false
-no_test byte mark differ = by (byte == mark) refl
-  where
-    by : (b : Bool) → (byte == mark) ≡ b → (byte == mark) ≡ false
-    by true e = absurd (differ (eqb-true byte mark e))
-    by false e = e
-
-below_test : (a b : ℕ) → a < b → nat_lt a b ≡ true
-below_test a b l = lt-ltb a b l
-
 -- a digit is a character of a value
 digit_is : (n : ℕ) → IsTrue (is_value_byte (hex_digit n))
 digit_is n = by (nat_lt n 10) refl
   where
     of : (byte : ℕ) → 47 < byte → byte ≢ 60 → byte ≢ 62 → IsTrue (is_value_byte byte)
-    of byte l a b = both_hold (is_character byte) (not (byte == 34)) (character_of byte (below_test 31 byte (omega arith)) (no_test byte 60 a) (no_test byte 62 b) (no_test byte 38 (omega arith))) (ap not (no_test byte 34 (omega arith)))
+    of byte l a b = both_hold (is_character byte) (not (byte == 34)) (character_of byte (lt-ltb 31 byte (omega arith)) (ne_eqb byte 60 a) (ne_eqb byte 62 b) (ne_eqb byte 38 (omega arith))) (ap not (ne_eqb byte 34 (omega arith)))
 
     by : (small : Bool) → nat_lt n 10 ≡ small → IsTrue (is_value_byte (cond small (48 + n) (87 + n)))
     by true e = let l : n < 10 = ltb-true n 10 e in of (48 + n) (omega arith) (omega arith) (omega arith)
@@ -92,7 +72,7 @@ byte_content wide byte = by (byte == 60) (byte == 62) (byte == 38) (nat_lt byte 
     by false false true low high e f g h = entity (codes "&amp;") [] ampersand nothing
     by false false false true high e f g h = character 92 _ refl (character 120 _ refl (character _ _ (digit_character (byte / 16)) (character _ _ (digit_character (byte % 16)) nothing)))
     by false false false false true e f g h = character 92 _ refl (character 120 _ refl (character _ _ (digit_character (byte / 16)) (character _ _ (digit_character (byte % 16)) nothing)))
-    by false false false false false e f g h = character byte [] (character_of byte (below_test 31 byte (omega (arith, ltb-false byte 32 h))) e f g) nothing
+    by false false false false false e f g h = character byte [] (character_of byte (lt-ltb 31 byte (omega (arith, ltb-false byte 32 h))) e f g) nothing
 
 bytes_content : (wide : Bool) (text : List ℕ) → IsContent (flat_map (xml_byte wide) text)
 bytes_content wide [] = nothing

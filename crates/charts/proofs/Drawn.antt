@@ -21,7 +21,8 @@ use Rattle.charts.specs.declared.marks.Place.{Place}
 use Rattle.charts.specs.declared.rows.SideRows.{SideRows}
 use Rattle.charts.specs.declared.strokes.Arrow.{Arrow}
 use Rattle.charts.specs.declared.strokes.Arrow.TheVariants.{Async, Farewell, Reply, Sync}
-use Rattle.charts.proofs.Contents.{all_beside, alone_around, alone_empty, beside, both_hold, cut_content, decimal_value}
+use Rattle.charts.proofs.Contents.{all_beside, alone_around, alone_empty, beside, cut_content, decimal_value}
+use Rattle.charts.proofs.Tests.{both_hold}
 
 -- Styles
 

@@ -1,6 +1,5 @@
 -- Where the rows are that arrows, bars and waiting items join.
 use Rattle.std.proofs.Common.{◌≡◌, ℕ, suc, ◌+◌, ◌≤◌, ℤ, Bool, true, false, cond, ◌&&◌, List, [], ◌∷◌, Option, Some, None, refl, sym, ap, subst, ◌∙◌, arith, true≢false, slice_get, int_eq, ◌-◌, ◌⊎◌, inl, inr}
-use Rattle.std.specs.Option.{option_map_or}
 use Rattle.std.specs.Bool.{Decides}
 use Rattle.std.proofs.lemmas.Bool.Decides.{Decides-int_eq}
 use Rattle.std.proofs.lemmas.Option.{same_Some}
@@ -14,6 +13,7 @@ use Rattle.ipdl_base.specs.declared.schema.Schema.{Schema}
 use Rattle.charts.specs.Firsts.{Finds, IsFirst}
 use Rattle.charts.specs.Joins.{Arrives, Departs, taken, dropped, replaced, Empties, HearsFarewell, IsLazySend, ReplyArrives, ReplyDeparts, reply_taken, resumed, failed, Returns}
 use Rattle.charts.specs.Rows.{arrival, departure, empties_outbox, handler_return, is_farewell, is_lazy, is_number, lazy_send, leave_from, reply_arrival, reply_departure, row_from, side_row_from}
+use Rattle.charts.proofs.Tests.{both_hold, first_of_both, second_of_both}
 
 -- The first row of a test
 
@@ -62,10 +62,7 @@ finds_here Holds all row line is holds = record { line = line; found = is; holds
 
 -- nothing is found where no lines are left
 finds_none : (Holds : Line → Type 0) (all : List Line) (row : ℕ) → AreFrom row all [] → Finds Holds all row None
-finds_none Holds all row are = λ at line low found holds. absurd (none-some line (sym (are (at - row) at (omega (arith, low))) ∙ found))
-  where
-    none-some : (line : Line) → None ≡ Some line → ⊥
-    none-some line e = true≢false (ap (λ (o : Option Line). option_map_or (λ _. false) o true) e)
+finds_none Holds all row are = λ at line low found holds. let none : None ≡ Some line = sym (are (at - row) at (omega (arith, low))) ∙ found in cc
 
 -- the first row that passes a test is that of the first line of which the test tells
 finds_first : (Holds : Line → Type 0) (test : Line → Bool) (tells : (line : Line) → Decides (test line) (Holds line)) (all : List Line) (row : ℕ) (lines : List Line) → AreFrom row all lines → Finds Holds all row (first_from row test lines)
@@ -165,22 +162,11 @@ side_is : (a : Side) → same_side a a ≡ true
 side_is side.Parent = refl
 side_is side.Child = refl
 
-both : (a b : Bool) → a ≡ true → b ≡ true → a && b ≡ true
-both a b e f = ap (λ (c : Bool). c && b) e ∙ f
-
-first_part : (a b : Bool) → a && b ≡ true → a ≡ true
-first_part true b e = refl
-first_part false b e = e
-
-second_part : (a b : Bool) → a && b ≡ true → b ≡ true
-second_part true b e = e
-second_part false b e = absurd (true≢false (sym e))
-
 -- the outbox of a side empties
 tells_empty : (schema : Schema) (side : Side) (line : Line) → Decides (same_side line.side side && empties_outbox schema line.what) (Empties schema side line)
 tells_empty schema side line = (
-  λ e. record { of_side = side_told line.side side (first_part _ _ e); empties = second_part (same_side line.side side) _ e },
-  λ h. both _ _ (ap (λ (s : Side). same_side s side) h.of_side ∙ side_is side) h.empties,
+  λ e. record { of_side = side_told line.side side (first_of_both _ _ e); empties = second_of_both (same_side line.side side) _ e },
+  λ h. both_hold _ _ (ap (λ (s : Side). same_side s side) h.of_side ∙ side_is side) h.empties,
 )
 
 side_row_is_first : (row : ℕ) (side : Side) (test : What → Bool) (lines : List Line) → side_row_from row side test lines ≡ first_from row (λ line. same_side line.side side && test line.what) lines
@@ -205,8 +191,8 @@ farewell_is w (inr e) = ap is_farewell e
 
 tells_farewell : (side : Side) (line : Line) → Decides (same_side line.side side && is_farewell line.what) (HearsFarewell side line)
 tells_farewell side line = (
-  λ e. record { of_side = side_told line.side side (first_part _ _ e); farewell = told_farewell line.what (second_part (same_side line.side side) _ e) },
-  λ h. both _ _ (ap (λ (s : Side). same_side s side) h.of_side ∙ side_is side) (farewell_is line.what h.farewell),
+  λ e. record { of_side = side_told line.side side (first_of_both _ _ e); farewell = told_farewell line.what (second_of_both (same_side line.side side) _ e) },
+  λ h. both_hold _ _ (ap (λ (s : Side). same_side s side) h.of_side ∙ side_is side) (farewell_is line.what h.farewell),
 )
 
 -- what is found of a farewell

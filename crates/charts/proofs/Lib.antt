@@ -3,4 +3,6 @@ mod Drawn
 mod Joined
 mod Joins
 mod RowLines
+mod Tests
 mod WellFormed
+mod WorkedDocuments

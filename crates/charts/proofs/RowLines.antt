@@ -1,8 +1,7 @@
 -- The rows of a picture are those of its lines.
-use Rattle.std.proofs.Common.{◌≡◌, ℕ, true, false, suc, zero, List, [], ◌∷◌, ◌++◌, Some, refl, sym, ap, subst, append_assoc, slice_get, length, true≢false}
+use Rattle.std.proofs.Common.{◌≡◌, ℕ, suc, zero, List, [], ◌∷◌, ◌++◌, Some, refl, sym, ap, subst, append_assoc, slice_get, length}
 use Rattle.std.specs.Prelude.{codes, take, None}
 use Rattle.std.specs.List.{concat}
-use Rattle.std.specs.Option.{option_map_or}
 use Rattle.std.proofs.lemmas.List.{append-nil}
 use Rattle.std.proofs.lemmas.Option.{same_Some}
 use Rattle.ipdl_base.specs.declared.line.Line.{Line}
@@ -43,12 +42,9 @@ module _ (schema : Schema) (rows : HistoryRows) (count : ℕ) where
         (append_assoc (codes "<g><title>" ++ shown (line_begin line ++ line_words schema before line) ++ codes "</title>") (marks rows (place_of count before line.side) line.what) (label schema (place_of count before line.side) (line_words schema before line) line.what));
   }
 
-  some-none : {X : Type 0} (x : X) → None ≡ Some x → ⊥
-  some-none x e = true≢false (ap (λ o. option_map_or (λ _. false) o true) e)
-
   -- each row, in its place
   each_row : (before lines : List Line) (i : ℕ) (line : Line) (row : List ℕ) → slice_get lines i ≡ Some line → slice_get (row_list before lines) i ≡ Some row → IsRow schema (before ++ take i lines) line row
-  each_row before [] i line row e f = absurd (some-none line e)
+  each_row before [] i line row e f = let none : None ≡ Some line = e in cc
   each_row before (first ∷ rest) zero line row e f =
       subst (λ (b : List Line). IsRow schema b line row) (sym (append-nil before))
       (subst (λ (l : Line). IsRow schema before l row) (same_Some first line e) (subst (IsRow schema before first) (same_Some (row_text schema rows count before first) row f) (is_row before first)))

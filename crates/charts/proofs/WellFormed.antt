@@ -15,17 +15,14 @@ use Rattle.charts.specs.Marks.{marks, place_of}
 use Rattle.charts.specs.Rows.{HistoryRows, rows_from}
 use Rattle.charts.specs.Strokes.{words}
 use Rattle.charts.specs.declared.marks.Place.{Place}
-use Rattle.charts.proofs.Contents.{alone_around, alone_empty, beside, both_hold, characters, decimal_value, shown_content}
+use Rattle.charts.proofs.Contents.{alone_around, alone_empty, beside, characters, decimal_value, shown_content}
 use Rattle.charts.proofs.Drawn.{IsStyle, at, label_content, lifeline_content, marks_content, spot, words_content}
+use Rattle.charts.proofs.Tests.{both_hold}
 
 -- Constant elements
 
 no_attributes : AreAttributes []
 no_attributes = record { each = refl; distinct = refl }
-
--- an element around characters
-abbrev around_text : List ℕ → List Attribute → List ℕ → List ℕ
-around_text name attributes text = element_around name attributes text
 
 title_content : IsContent (codes "<title id=\"name\">The history of a channel</title>")
 title_content = alone_around (codes "title") (at (codes "id") (codes "name") ∷ []) (codes "The history of a channel") refl (record { each = refl; distinct = refl }) (characters _ refl)

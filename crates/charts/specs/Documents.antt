@@ -1,4 +1,5 @@
--- Which bytes are an XML document of one element: each element that opens closes, in order, and no other byte is markup.
+-- Which bytes are an XML document of one element: each element that opens closes, in order, and no other byte is markup. Whether the
+-- bytes from 128 on are UTF-8 is not said here.
 use Rattle.std.specs.Prelude.{◌≡◌, ℕ, ◌==◌, ◌&&◌, ◌||◌, not, nat_lt, Bool, true, false, List, [], ◌∷◌, ◌++◌, codes, IsTrue}
 use Rattle.std.specs.List.{list_all, list_any}
 use Rattle.std.specs.Str.{bytes_eq}
