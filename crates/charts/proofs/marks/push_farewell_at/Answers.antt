@@ -15,6 +15,6 @@ returns c =
     let place = c.args.place in
     let to : c.of_side-to.result.farewell ≡ (rows_of (noted rows) (other place.side)).farewell =
     ap (λ (r : SideRows). r.farewell) (c.of_side-to.ensures ∙ (ap (side_noted rows) c.other.ensures ∙ side_is_noted rows (other place.side))) in
-    let closes : is_closing (noted rows) place ≡ true = sym c.is_closing.ensures ∙ (let open : c.is_closing.result ≡ true = search rules in open) in
+    let closes : is_closing (noted rows) place ≡ true = sym c.is_closing.ensures ∙ (let closes_here : c.is_closing.result ≡ true = search rules in closes_here) in
     same c.push_arrow_at.result c.args.out.now.items c.push_arrow_at.new.out.items (arrow_at Farewell place c.of_side-to.result.farewell) (farewell_at (noted rows) place)
     (ap (arrow_at Farewell place) to ∙ ap (λ (closing : Bool). if closing then arrow_at Farewell place (rows_of (noted rows) (other place.side)).farewell else []) (sym closes)) c.push_arrow_at.ensures
