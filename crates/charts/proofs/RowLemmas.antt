@@ -1,7 +1,5 @@
 -- What is noted of rows.
-use Rattle.std.proofs.Common.{◌≡◌, ◌∙◌, refl, ℕ, ℤ, ◌+◌, Bool, true, false, ◌||◌, if◌then◌else◌, List, ◌∷◌, Option, Some, None, is_none, is_some, sym, ap}
-use Rattle.std.specs.HashMap.{get}
-use Rattle.std.specs.Ordering.{int_eq}
+use Rattle.std.proofs.Common.{◌≡◌, ◌∙◌, refl, ℕ, ℤ, ◌+◌, true, false, ◌||◌, if◌then◌else◌, List, ◌∷◌, Option, Some, None, is_none, is_some, sym, ap}
 use Rattle.ipdl_base.specs.Lines.{same_side}
 use Rattle.ipdl_base.specs.declared.kinds.Side.{Side}
 use Rattle.ipdl_base.specs.declared.kinds.Side.TheVariants as side
@@ -9,7 +7,7 @@ use Rattle.ipdl_base.specs.declared.line.Line.{Line}
 use Rattle.ipdl_base.specs.declared.line.What.{What}
 use Rattle.ipdl_base.specs.declared.schema.Schema.{Schema}
 use Rattle.charts.specs.Noted.{Knows, noted, side_noted}
-use Rattle.charts.specs.Rows.{empties_outbox, has_ended, is_end, is_farewell, is_number, last_row_from, lazy_send, leave_from, row_from, rows_of, side_row_from, side_rows}
+use Rattle.charts.specs.Rows.{empties_outbox, is_end, is_farewell, is_number, last_row_from, lazy_send, leave_from, row_from, rows_of, side_row_from, side_rows}
 use Rattle.charts.specs.declared.rows.Rows.{Rows}
 use Rattle.charts.specs.declared.rows.SideRows.{SideRows}
 

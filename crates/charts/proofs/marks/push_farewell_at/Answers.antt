@@ -1,4 +1,4 @@
-use Rattle.std.proofs.Common.{◌≡◌, ◌∙◌, ℕ, Option, ap}
+use Rattle.std.proofs.Common.{◌≡◌, ◌∙◌, ap}
 use Rattle.ipdl_base.specs.Sides.{other}
 use Rattle.charts.specs.Marks.{arrow_at, farewell_at}
 use Rattle.charts.specs.Noted.{noted, side_noted}
