@@ -234,7 +234,7 @@ label_content schema place text w =
 
 -- Lifelines
 
-cap_content : (ended : Bool) (end : Side) (row : ℕ) → IsContent (cap ended end row)
+cap_content : (ended : Bool) (end : Side) (row : ℕ) → IsContent (cond ended (cap end row) [])
 cap_content true end row = stroke_content life_style life_is (lane end - 12) (height row) (lane end + 12) (height row)
 cap_content false end row = nothing
 

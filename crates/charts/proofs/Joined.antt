@@ -20,14 +20,14 @@ use Rattle.charts.proofs.Tests.{both_hold, first_of_both, second_of_both}
 -- the first row from which a test holds
 abbrev first_from : ℕ → (Line → Bool) → List Line → Option ℕ
 first_from row test [] = None
-first_from row test (line ∷ rest) = cond (test line) (Some row) (first_from (suc row) test rest)
+first_from row test (line ∷ rest) = cond (test line) (Some row) (first_from (row + 1) test rest)
 
 -- these lines are those of a history from a row on
 abbrev AreFrom : ℕ → List Line → List Line → Type 0
 AreFrom row all lines = (i at : ℕ) → at ≡ row + i → slice_get all at ≡ slice_get lines i
 
 -- so are the lines after the first from the next row on
-are_next : (row : ℕ) (all : List Line) (line : Line) (rest : List Line) → AreFrom row all (line ∷ rest) → AreFrom (suc row) all rest
+are_next : (row : ℕ) (all : List Line) (line : Line) (rest : List Line) → AreFrom row all (line ∷ rest) → AreFrom (row + 1) all rest
 are_next row all line rest are i at e = are (suc i) at (omega (arith, e))
 
 -- the first of these lines
@@ -36,17 +36,17 @@ first_of row all line rest are = are 0 row (omega arith)
 
 -- Of a row at which this does not hold, the first line from the next row on is the first from this row on.
 module _ (Holds : Line → Type 0) (all : List Line) (row : ℕ) (line : Line) (is : slice_get all row ≡ Some line) (not_here : ¬ Holds line) where
-  earlier : (at : ℕ) (other : Line) → row ≤ at → slice_get all at ≡ Some other → (suc row ≤ at → ¬ Holds other) → ¬ Holds other
+  earlier : (at : ℕ) (other : Line) → row ≤ at → slice_get all at ≡ Some other → (row + 1 ≤ at → ¬ Holds other) → ¬ Holds other
   earlier at other low found later holds = by (split row at low)
     where
-      split : (a b : ℕ) → a ≤ b → (a ≡ b) ⊎ (suc a ≤ b)
+      split : (a b : ℕ) → a ≤ b → (a ≡ b) ⊎ (a + 1 ≤ b)
       split a b l = grind arith
 
-      by : (row ≡ at) ⊎ (suc row ≤ at) → ⊥
+      by : (row ≡ at) ⊎ (row + 1 ≤ at) → ⊥
       by (inl e) = not_here (subst Holds (same_Some other line (sym found ∙ ap (slice_get all) (sym e) ∙ is)) holds)
       by (inr l) = later l holds
 
-  finds_before : (found : Option ℕ) → Finds Holds all (suc row) found → Finds Holds all row found
+  finds_before : (found : Option ℕ) → Finds Holds all (row + 1) found → Finds Holds all row found
   finds_before None none = λ at other low e. earlier at other low e (λ l. none at other l e)
   finds_before (Some at) f = record {
     line = f.line;
@@ -68,11 +68,11 @@ finds_none Holds all row are = λ at line low found holds. let none : None ≡ S
 finds_first : (Holds : Line → Type 0) (test : Line → Bool) (tells : (line : Line) → Decides (test line) (Holds line)) (all : List Line) (row : ℕ) (lines : List Line) → AreFrom row all lines → Finds Holds all row (first_from row test lines)
 finds_first Holds test tells all row [] are = finds_none Holds all row are
 finds_first Holds test tells all row (line ∷ rest) are =
-    by (test line) refl (finds_first Holds test tells all (suc row) rest (are_next row all line rest are))
+    by (test line) refl (finds_first Holds test tells all (row + 1) rest (are_next row all line rest are))
   where
-    by : (holds : Bool) → test line ≡ holds → Finds Holds all (suc row) (first_from (suc row) test rest) → Finds Holds all row (cond holds (Some row) (first_from (suc row) test rest))
+    by : (holds : Bool) → test line ≡ holds → Finds Holds all (row + 1) (first_from (row + 1) test rest) → Finds Holds all row (cond holds (Some row) (first_from (row + 1) test rest))
     by true e later = finds_here Holds all row line (first_of row all line rest are) ((tells line).0 e)
-    by false e later = finds_before Holds all row line (first_of row all line rest are) (λ h. true≢false (sym ((tells line).1 h) ∙ e)) (first_from (suc row) test rest) later
+    by false e later = finds_before Holds all row line (first_of row all line rest are) (λ h. true≢false (sym ((tells line).1 h) ∙ e)) (first_from (row + 1) test rest) later
 
 -- lines are their own from row 0 on
 are_all : (lines : List Line) → AreFrom 0 lines lines
@@ -81,9 +81,8 @@ are_all lines i at e = ap (slice_get lines) (e ∙ omega arith)
 -- Numbers
 
 row_is_first : (row : ℕ) (number : What → Option ℤ) (lines : List Line) (n : ℤ) → row_from row number lines n ≡ first_from row (λ line. is_number n (number line.what)) lines
-unfolding row_from
 row_is_first row number [] n = refl
-row_is_first row number (line ∷ rest) n = ap (cond (is_number n (number line.what)) (Some row)) (row_is_first (suc row) number rest n)
+row_is_first row number (line ∷ rest) n = ap (cond (is_number n (number line.what)) (Some row)) (row_is_first (row + 1) number rest n)
 
 -- the row that is found for a number is that of the first line that gives the number
 pub finds_number : (Holds : Line → Type 0) (number : What → Option ℤ) (n : ℤ) → ((line : Line) → Decides (is_number n (number line.what)) (Holds line)) → (lines : List Line) → Finds Holds lines 0 (row_from 0 number lines n)
@@ -170,9 +169,8 @@ tells_empty schema side line = (
 )
 
 side_row_is_first : (row : ℕ) (side : Side) (test : What → Bool) (lines : List Line) → side_row_from row side test lines ≡ first_from row (λ line. same_side line.side side && test line.what) lines
-unfolding side_row_from
 side_row_is_first row side test [] = refl
-side_row_is_first row side test (line ∷ rest) = ap (cond (same_side line.side side && test line.what) (Some row)) (side_row_is_first (suc row) side test rest)
+side_row_is_first row side test (line ∷ rest) = ap (cond (same_side line.side side && test line.what) (Some row)) (side_row_is_first (row + 1) side test rest)
 
 finds_empty : (schema : Schema) (side : Side) (all : List Line) (row : ℕ) (lines : List Line) → AreFrom row all lines → Finds (Empties schema side) all row (side_row_from row side (empties_outbox schema) lines)
 finds_empty schema side all row lines are =
@@ -220,14 +218,14 @@ tells_lazy schema n line = (
 pub record Leaves (schema : Schema) (n : ℤ) (all : List Line) (row : ℕ) (left : Option ℕ) : Type 0 where
   pub sent : ℕ
   pub send : IsFirst (IsLazySend schema n) all row sent
-  pub empties : Finds (Empties schema send.line.side) all (suc sent) left
+  pub empties : Finds (Empties schema send.line.side) all (sent + 1) left
 
 -- so of what is found of a lazy send, if one is found
 abbrev pub FindsLeave : Schema → ℤ → List Line → ℕ → Option (Option ℕ) → Type 0
 FindsLeave schema n all row None = Finds (IsLazySend schema n) all row None
 FindsLeave schema n all row (Some left) = Leaves schema n all row left
 
-leaves_before : (schema : Schema) (n : ℤ) (all : List Line) (row : ℕ) (line : Line) → slice_get all row ≡ Some line → ¬ IsLazySend schema n line → (found : Option (Option ℕ)) → FindsLeave schema n all (suc row) found
+leaves_before : (schema : Schema) (n : ℤ) (all : List Line) (row : ℕ) (line : Line) → slice_get all row ≡ Some line → ¬ IsLazySend schema n line → (found : Option (Option ℕ)) → FindsLeave schema n all (row + 1) found
     → FindsLeave schema n all row found
 unfolding finds_before
 leaves_before schema n all row line is not_here None later = finds_before (IsLazySend schema n) all row line is not_here None later
@@ -235,19 +233,19 @@ leaves_before schema n all row line is not_here (Some left) later =
     record { sent = later.sent; send = finds_before (IsLazySend schema n) all row line is not_here (Some later.sent) later.send; empties = later.empties }
 
 leave_from_row : (schema : Schema) (n : ℤ) (all : List Line) (row : ℕ) (lines : List Line) → AreFrom row all lines → FindsLeave schema n all row (leave_from row schema lines n)
-unfolding leave_from finds_here
+unfolding finds_here
 leave_from_row schema n all row [] are = finds_none (IsLazySend schema n) all row are
 leave_from_row schema n all row (line ∷ rest) are =
-    by (is_number n (lazy_send schema line.what)) refl (leave_from_row schema n all (suc row) rest (are_next row all line rest are))
+    by (is_number n (lazy_send schema line.what)) refl (leave_from_row schema n all (row + 1) rest (are_next row all line rest are))
   where
-    by : (holds : Bool) → is_number n (lazy_send schema line.what) ≡ holds → FindsLeave schema n all (suc row) (leave_from (suc row) schema rest n)
-        → FindsLeave schema n all row (cond holds (Some (side_row_from (suc row) line.side (empties_outbox schema) rest)) (leave_from (suc row) schema rest n))
+    by : (holds : Bool) → is_number n (lazy_send schema line.what) ≡ holds → FindsLeave schema n all (row + 1) (leave_from (row + 1) schema rest n)
+        → FindsLeave schema n all row (cond holds (Some (side_row_from (row + 1) line.side (empties_outbox schema) rest)) (leave_from (row + 1) schema rest n))
     by true e later = record {
       sent = row;
       send = finds_here (IsLazySend schema n) all row line (first_of row all line rest are) ((tells_lazy schema n line).0 e);
-      empties = finds_empty schema line.side all (suc row) rest (are_next row all line rest are);
+      empties = finds_empty schema line.side all (row + 1) rest (are_next row all line rest are);
     }
-    by false e later = leaves_before schema n all row line (first_of row all line rest are) (λ h. true≢false (sym ((tells_lazy schema n line).1 h) ∙ e)) (leave_from (suc row) schema rest n) later
+    by false e later = leaves_before schema n all row line (first_of row all line rest are) (λ h. true≢false (sym ((tells_lazy schema n line).1 h) ∙ e)) (leave_from (row + 1) schema rest n) later
 
 -- what is found of a lazy send
 pub finds_leave : (schema : Schema) (lines : List Line) (n : ℤ) → FindsLeave schema n lines 0 (leave_from 0 schema lines n)

@@ -108,13 +108,14 @@ abbrev opening : List ℕ
 opening = codes "\" role=\"img\" aria-labelledby=\"name about\" font-family=\"ui-monospace, Menlo, Consolas, 'DejaVu Sans Mono', monospace\" font-size=\"12\">"
 
 head_end_parts : head_end ≡ opening ++ constant
-unfolding constant
+unfolding constant head_end
 head_end_parts = refl
 
 regrouped : (start high quote more close : List ℕ) → start ++ (high ++ quote ++ more) ++ close ≡ start ++ high ++ (quote ++ more ++ close)
 regrouped start high quote more close = simp append_assoc
 
 opens : (high : List ℕ) → codes "<" ++ codes "svg" ++ attributes_text (svg_attributes high) ++ codes ">" ≡ head_start ++ high ++ opening
+unfolding head_start
 opens high =
     regrouped head_start high (codes "\"") (codes " role=\"img\" aria-labelledby=\"name about\" font-family=\"ui-monospace, Menlo, Consolas, 'DejaVu Sans Mono', monospace\" font-size=\"12\"") (codes ">")
 
@@ -124,7 +125,7 @@ svg_are n = record { each = both_hold _ true (decimal_value n) refl; distinct = 
 -- Rows
 
 row_regrouped : (group title text out title' close drawn words group' feed : List ℕ)
-    → group ++ (title ++ text ++ out ++ title' ++ close ++ drawn ++ words) ++ out ++ group' ++ close ++ feed ≡ group ++ title ++ text ++ (out ++ title' ++ close) ++ drawn ++ words ++ (out ++ group' ++ close ++ feed)
+    → group ++ (title ++ text ++ out ++ title' ++ close ++ drawn ++ words) ++ out ++ group' ++ close ++ feed ≡ group ++ title ++ text ++ (out ++ title' ++ close) ++ (drawn ++ (words ++ (out ++ group' ++ close ++ feed)))
 row_regrouped group title text out title' close drawn words group' feed = simp append_assoc
 
 module _ (schema : Schema) (rows : HistoryRows) (count : ℕ) where
@@ -162,7 +163,7 @@ ending count spent = words (codes "text-anchor=\"middle\" font-size=\"16\"") 700
 -- The document
 
 document_regrouped : (begin body one two feed rows words out name close : List ℕ)
-    → begin ++ body ++ one ++ two ++ feed ++ rows ++ (words ++ (feed ++ out ++ name ++ close ++ feed)) ≡ begin ++ (body ++ one ++ two ++ feed ++ rows ++ words ++ feed) ++ out ++ name ++ close ++ feed
+    → begin ++ body ++ (one ++ two ++ feed) ++ rows ++ (words ++ (feed ++ out ++ name ++ close ++ feed)) ≡ begin ++ (body ++ one ++ two ++ feed ++ rows ++ words ++ feed) ++ out ++ name ++ close ++ feed
 document_regrouped begin body one two feed rows words out name close = simp append_assoc
 
 -- the law of documents
@@ -177,7 +178,7 @@ charts_are_well_formed schema lines spent = record {
       ended (beside (beside (ended (beside (beside constant_content (lifeline_content rows.parent side.Parent (length lines))) (lifeline_content rows.child side.Child (length lines)))) (rows_content schema rows (length lines) [] lines))
       (words_content _ ending_style 700 (110 + 20 * length lines) (ending_words spent) (ending_content spent)));
   whole =
-      ap (λ (t : List ℕ). t ++ lifeline rows.parent side.Parent (length lines) ++ lifeline rows.child side.Child (length lines) ++ codes "\n" ++ rows_text schema rows (length lines) [] lines ++ foot (length lines) spent)
+      ap (λ (t : List ℕ). t ++ (lifeline rows.parent side.Parent (length lines) ++ lifeline rows.child side.Child (length lines) ++ codes "\n") ++ rows_text schema rows (length lines) [] lines ++ foot (length lines) spent)
       (ap (λ (t : List ℕ). head_start ++ decimal (130 + 20 * length lines) ++ t) head_end_parts ∙ sym (append_assoc (head_start ++ decimal (130 + 20 * length lines)) opening constant)
       ∙ ap (λ (t : List ℕ). t ++ constant) (sym (opens (decimal (130 + 20 * length lines)))))
       ∙ document_regrouped (codes "<" ++ codes "svg" ++ attributes_text (svg_attributes (decimal (130 + 20 * length lines))) ++ codes ">") constant (lifeline rows.parent side.Parent (length lines))

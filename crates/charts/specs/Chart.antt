@@ -1,5 +1,5 @@
 -- The picture of a history: one SVG document, with two lifelines and a row for each line.
-use Rattle.std.specs.Prelude.{ℕ, ℤ, ◌+◌, ◌*◌, ◌-◌, Bool, true, false, if◌then◌else◌, List, [], ◌∷◌, ◌++◌, codes, length, Option, Some, None}
+use Rattle.std.specs.Prelude.{ℕ, ◌+◌, ◌*◌, ◌-◌, Bool, true, false, if◌then◌else◌, List, [], ◌∷◌, ◌++◌, codes, length, Option, Some, None}
 use Rattle.std.specs.Fmt.{decimal}
 use Rattle.ipdl_base.specs.Lines.{is_effect}
 use Rattle.ipdl_base.specs.declared.kinds.Side.{Side}
@@ -13,7 +13,7 @@ use Rattle.history.specs.Text.{line_begin, returns_named, what_text}
 use Rattle.charts.specs.Escapes.{shown}
 use Rattle.charts.specs.Labels.{cut, row_words}
 use Rattle.charts.specs.Marks.{marks, place_of}
-use Rattle.charts.specs.Rows.{HistoryRows, bottom, rows_from, rows_of}
+use Rattle.charts.specs.Rows.{HistoryRows, bottom, rows_from}
 use Rattle.charts.specs.Strokes.{height, lane, stroke, words}
 use Rattle.charts.specs.declared.marks.Place.{Place}
 use Rattle.charts.specs.declared.rows.SideRows.{SideRows}

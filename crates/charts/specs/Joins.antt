@@ -1,5 +1,5 @@
 -- At which lines the arrows, bars and waiting items of a picture end.
-use Rattle.std.specs.Prelude.{◌≡◌, ◌⊎◌, ℕ, suc, ℤ, true, List, ◌++◌, Option, None}
+use Rattle.std.specs.Prelude.{◌≡◌, ◌⊎◌, ℕ, ◌+◌, ℤ, true, List, ◌++◌, Option, None}
 use Rattle.ipdl_base.specs.Sides.{other}
 use Rattle.ipdl_base.specs.declared.kinds.Side.{Side}
 use Rattle.ipdl_base.specs.declared.line.Line.{Line}
@@ -65,9 +65,9 @@ pub record Empties (schema : Schema) (side : Side) (line : Line) : Type 0 where
 -- line down to the bottom.
 pub data DrawsSend (schema : Schema) (lines : List Line) (place : Place) (n : ℤ) (text : List ℕ) : Type 0 where
   at_once : (to : Option ℕ) → Finds (IsLazySend schema n) lines 0 None → Finds (Arrives n) lines 0 to → text ≡ arrow_at Async place to → DrawsSend schema lines place n text
-  later : (sent left : ℕ) (to : Option ℕ) (send : IsFirst (IsLazySend schema n) lines 0 sent) → IsFirst (Empties schema send.line.side) lines (suc sent) left → Finds (Arrives n) lines 0 to
+  later : (sent left : ℕ) (to : Option ℕ) (send : IsFirst (IsLazySend schema n) lines 0 sent) → IsFirst (Empties schema send.line.side) lines (sent + 1) left → Finds (Arrives n) lines 0 to
       → text ≡ down outbox_style place (outbox_place place.side) left ++ arrow_text Async place.side left to place.count → DrawsSend schema lines place n text
-  never : (sent : ℕ) (send : IsFirst (IsLazySend schema n) lines 0 sent) → Finds (Empties schema send.line.side) lines (suc sent) None
+  never : (sent : ℕ) (send : IsFirst (IsLazySend schema n) lines 0 sent) → Finds (Empties schema send.line.side) lines (sent + 1) None
       → text ≡ down outbox_style place (outbox_place place.side) (bottom_at (rows_from schema 0 lines) place) → DrawsSend schema lines place n text
 
 -- a call is drawn by the bar of its wait, down to where it continues, and by an arrow to the row of its delivery

@@ -1,5 +1,5 @@
 -- The text of each mark of a picture.
-use Rattle.std.specs.Prelude.{ℕ, ◌+◌, ◌*◌, ◌-◌, Bool, true, false, if◌then◌else◌, List, [], ◌∷◌, ◌++◌, codes, Option, Some, None, is_some, unwrap_or}
+use Rattle.std.specs.Prelude.{ℕ, ◌+◌, ◌*◌, Bool, true, false, List, ◌++◌, codes, Option, is_some, unwrap_or}
 use Rattle.std.specs.Fmt.{decimal}
 use Rattle.ipdl_base.specs.Sides.{other}
 use Rattle.ipdl_base.specs.declared.kinds.Side.{Side}

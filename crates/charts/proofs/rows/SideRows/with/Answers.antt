@@ -1,6 +1,5 @@
 use Rattle.std.proofs.Common.{◌≡◌, ◌∙◌, rules, true, false, sym, ap}
 use Rattle.ipdl_base.specs.Lines.{same_side}
-use Rattle.charts.specs.declared.rows.SideRows.{SideRows}
 use Rattle.charts.proofs.RowLemmas.{other_line, own_line, with_own}
 use Rattle.charts.proofs.rows.SideRows.with.Goals as goal
 
