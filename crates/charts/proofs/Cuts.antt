@@ -1,5 +1,5 @@
 -- How much of a label is kept.
-use Rattle.std.proofs.Common.{◌≡◌, ℕ, zero, suc, ◌-◌, ◌==◌, ◌≤◌, Bool, true, false, if◌then◌else◌, List, [], ◌∷◌, length, Option, Some, None, subst, arith}
+use Rattle.std.proofs.Common.{◌≡◌, ℕ, suc, ◌-◌, ◌==◌, ◌≤◌, Bool, true, false, if◌then◌else◌, List, [], ◌∷◌, length, Option, Some, None, subst, arith}
 use Rattle.std.specs.Prelude.{option_map}
 use Rattle.charts.specs.Labels.{is_continuation, kept_length, kept_values}
 

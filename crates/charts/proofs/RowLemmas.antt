@@ -1,7 +1,5 @@
 -- What is noted of rows.
-use Rattle.std.proofs.Common.{◌≡◌, ◌∙◌, refl, ℕ, ℤ, ◌+◌, Bool, true, false, ◌||◌, if◌then◌else◌, List, ◌∷◌, Option, Some, None, is_none, is_some, sym, ap}
-use Rattle.std.specs.HashMap.{get}
-use Rattle.std.specs.Ordering.{int_eq}
+use Rattle.std.proofs.Common.{◌≡◌, ◌∙◌, refl, ℕ, ℤ, ◌+◌, true, false, ◌||◌, if◌then◌else◌, List, ◌∷◌, Option, Some, None, is_none, is_some, sym, ap}
 use Rattle.ipdl_base.specs.Lines.{same_side}
 use Rattle.ipdl_base.specs.declared.kinds.Side.{Side}
 use Rattle.ipdl_base.specs.declared.kinds.Side.TheVariants as side
@@ -9,7 +7,7 @@ use Rattle.ipdl_base.specs.declared.line.Line.{Line}
 use Rattle.ipdl_base.specs.declared.line.What.{What}
 use Rattle.ipdl_base.specs.declared.schema.Schema.{Schema}
 use Rattle.charts.specs.Noted.{Knows, noted, side_noted}
-use Rattle.charts.specs.Rows.{empties_outbox, has_ended, is_end, is_farewell, is_number, last_row_from, lazy_send, leave_from, row_from, rows_of, side_row_from, side_rows}
+use Rattle.charts.specs.Rows.{empties_outbox, ends_channel, is_end, is_farewell, is_number, last_row_from, lazy_send, leave_from, outbox_row_from, row_from, rows_of, side_rows}
 use Rattle.charts.specs.declared.rows.Rows.{Rows}
 use Rattle.charts.specs.declared.rows.SideRows.{SideRows}
 
@@ -40,7 +38,8 @@ with_own schema row w rows = record {
   last = if is_none rows.last then Some row else rows.last;
   ended = is_end w || rows.ended;
   farewell = if is_farewell w then Some row else rows.farewell;
-  leave = if empties_outbox schema w then Some row else rows.leave;
+  closing = if ends_channel w then Some row else rows.closing;
+  leave = if is_farewell w then None else (if empties_outbox schema w then Some row else rows.leave);
 }
 
 -- a line of the side comes before all others
@@ -56,15 +55,15 @@ noted_more f row line rest old new given is gives knows n =
 
 -- a lazy send that is noted with the row at which it leaves, before later ones
 pub leave_more : (schema : Schema) (row : ℕ) (line : Line) (rest : List Line) (old new : ℤ → Option (Option ℕ)) (given : Option ℤ) (leave : Option ℕ) → given ≡ lazy_send schema line.what
-    → leave ≡ side_row_from (row + 1) line.side (empties_outbox schema) rest → ((n : ℤ) → new n ≡ (if is_number n given then Some leave else old n))
+    → leave ≡ outbox_row_from (row + 1) schema line.side rest → ((n : ℤ) → new n ≡ (if is_number n given then Some leave else old n))
     → ((n : ℤ) → old n ≡ leave_from (row + 1) schema rest n) → (n : ℤ) → new n ≡ leave_from row schema (line ∷ rest) n
 leave_more schema row line rest old new given leave is leaves gives knows n =
     gives n
     ∙ (ap (λ (g : Option ℤ). if is_number n g then Some leave else old n) is
     ∙ (ap (λ (l : Option ℕ). if is_number n (lazy_send schema line.what) then Some l else old n) leaves
-    ∙ ap (λ (o : Option (Option ℕ)). if is_number n (lazy_send schema line.what) then Some (side_row_from (row + 1) line.side (empties_outbox schema) rest) else o) (knows n)))
+    ∙ ap (λ (o : Option (Option ℕ)). if is_number n (lazy_send schema line.what) then Some (outbox_row_from (row + 1) schema line.side rest) else o) (knows n)))
 
 -- where what waits in the outbox of a side leaves
-pub leave_known : (schema : Schema) (row : ℕ) (rest : List Line) (rows : Rows) (s : Side) → Knows schema row rest rows → (side_noted rows s).leave ≡ side_row_from row s (empties_outbox schema) rest
+pub leave_known : (schema : Schema) (row : ℕ) (rest : List Line) (rows : Rows) (s : Side) → Knows schema row rest rows → (side_noted rows s).leave ≡ outbox_row_from row schema s rest
 leave_known schema row rest rows side.Parent knows = ap (λ (r : SideRows). r.leave) knows.parent
 leave_known schema row rest rows side.Child knows = ap (λ (r : SideRows). r.leave) knows.child

@@ -15,6 +15,9 @@ use Rattle.charts.specs.Rows.{HistoryRows, rows_from}
 use Rattle.charts.proofs.Contents.{beside}
 use Rattle.charts.proofs.Drawn.{label_content, marks_content}
 
+row_regrouped : (title drawn words close : List ℕ) → title ++ (drawn ++ (words ++ close)) ≡ title ++ (drawn ++ words) ++ close
+row_regrouped title drawn words close = simp append_assoc
+
 module _ (schema : Schema) (rows : HistoryRows) (count : ℕ) where
   -- the row of each line
   abbrev row_list : List Line → List Line → List (List ℕ)
@@ -38,8 +41,9 @@ module _ (schema : Schema) (rows : HistoryRows) (count : ℕ) where
     drawn = marks rows (place_of count before line.side) line.what ++ label schema (place_of count before line.side) (line_words schema before line) line.what;
     is_title = refl;
     is_content = beside (marks_content rows (place_of count before line.side) line.what) (label_content schema (place_of count before line.side) (line_words schema before line) line.what);
-    whole = ap (λ (t : List ℕ). t ++ codes "</g>\n")
-        (append_assoc (codes "<g><title>" ++ shown (line_begin line ++ line_words schema before line) ++ codes "</title>") (marks rows (place_of count before line.side) line.what) (label schema (place_of count before line.side) (line_words schema before line) line.what));
+    whole =
+        row_regrouped (codes "<g><title>" ++ shown (line_begin line ++ line_words schema before line) ++ codes "</title>") (marks rows (place_of count before line.side) line.what)
+        (label schema (place_of count before line.side) (line_words schema before line) line.what) (codes "</g>\n");
   }
 
   -- each row, in its place

@@ -13,7 +13,6 @@ use Rattle.charts.specs.Marks.{place_of}
 use Rattle.charts.specs.Rows.{HistoryRows, begins_bar, brings_item, count_of, ends_bar}
 use Rattle.charts.specs.Tallies.{AreBelow, place_by, tally_at, tally_of}
 use Rattle.charts.specs.declared.chart.Pen.{Pen}
-use Rattle.charts.specs.declared.marks.Place.{Place}
 use Rattle.charts.specs.declared.tally.Tally.{Tally}
 
 -- the place of a line is the one after the lines that the pen knows

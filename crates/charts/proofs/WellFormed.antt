@@ -63,14 +63,14 @@ ground_content =
     alone_empty (codes "rect") (at (codes "class") (codes "ground") ∷ at (codes "width") (codes "100%") ∷ at (codes "height") (codes "100%") ∷ at (codes "fill") (codes "#fff") ∷ []) refl
     (record { each = refl; distinct = refl })
 
-parent_content : IsContent (codes "<text x=\"560\" y=\"32\" text-anchor=\"middle\" font-size=\"16\">parent</text>")
+parent_content : IsContent (codes "<text x=\"600\" y=\"32\" text-anchor=\"middle\" font-size=\"16\">parent</text>")
 parent_content =
-    alone_around (codes "text") (at (codes "x") (codes "560") ∷ at (codes "y") (codes "32") ∷ at (codes "text-anchor") (codes "middle") ∷ at (codes "font-size") (codes "16") ∷ []) (codes "parent") refl
+    alone_around (codes "text") (at (codes "x") (codes "600") ∷ at (codes "y") (codes "32") ∷ at (codes "text-anchor") (codes "middle") ∷ at (codes "font-size") (codes "16") ∷ []) (codes "parent") refl
     (record { each = refl; distinct = refl }) (characters _ refl)
 
-child_content : IsContent (codes "<text x=\"840\" y=\"32\" text-anchor=\"middle\" font-size=\"16\">child</text>")
+child_content : IsContent (codes "<text x=\"800\" y=\"32\" text-anchor=\"middle\" font-size=\"16\">child</text>")
 child_content =
-    alone_around (codes "text") (at (codes "x") (codes "840") ∷ at (codes "y") (codes "32") ∷ at (codes "text-anchor") (codes "middle") ∷ at (codes "font-size") (codes "16") ∷ []) (codes "child") refl
+    alone_around (codes "text") (at (codes "x") (codes "800") ∷ at (codes "y") (codes "32") ∷ at (codes "text-anchor") (codes "middle") ∷ at (codes "font-size") (codes "16") ∷ []) (codes "child") refl
     (record { each = refl; distinct = refl }) (characters _ refl)
 
 line_feed : IsContent (codes "\n")
@@ -88,8 +88,8 @@ constant =
     ++ codes "\n")
     ++ (codes "<style>" ++ colors ++ codes "</style>" ++ codes "\n") ++ (codes "<defs>" ++ marker ++ codes "</defs>" ++ codes "\n")
     ++ (codes "<rect class=\"ground\" width=\"100%\" height=\"100%\" fill=\"#fff\"/>" ++ codes "\n")
-    ++ (codes "<text x=\"560\" y=\"32\" text-anchor=\"middle\" font-size=\"16\">parent</text>" ++ codes "\n")
-    ++ (codes "<text x=\"840\" y=\"32\" text-anchor=\"middle\" font-size=\"16\">child</text>" ++ codes "\n")
+    ++ (codes "<text x=\"600\" y=\"32\" text-anchor=\"middle\" font-size=\"16\">parent</text>" ++ codes "\n")
+    ++ (codes "<text x=\"800\" y=\"32\" text-anchor=\"middle\" font-size=\"16\">child</text>" ++ codes "\n")
 
 constant_content : IsContent constant
 unfolding constant
@@ -102,21 +102,22 @@ constant_content =
 abbrev svg_attributes : List ℕ → List Attribute
 svg_attributes high =
     at (codes "xmlns") (codes "http://www.w3.org/2000/svg") ∷ at (codes "viewBox") (codes "0 0 1400 " ++ high) ∷ at (codes "role") (codes "img") ∷ at (codes "aria-labelledby") (codes "name about")
-    ∷ at (codes "font-family") (codes "ui-monospace, Menlo, Consolas, 'DejaVu Sans Mono', monospace") ∷ at (codes "font-size") (codes "12") ∷ []
+    ∷ at (codes "font-family") (codes "ui-monospace, Menlo, Consolas, 'DejaVu Sans Mono', monospace") ∷ at (codes "font-size") (codes "13") ∷ []
 
 abbrev opening : List ℕ
-opening = codes "\" role=\"img\" aria-labelledby=\"name about\" font-family=\"ui-monospace, Menlo, Consolas, 'DejaVu Sans Mono', monospace\" font-size=\"12\">"
+opening = codes "\" role=\"img\" aria-labelledby=\"name about\" font-family=\"ui-monospace, Menlo, Consolas, 'DejaVu Sans Mono', monospace\" font-size=\"13\">"
 
 head_end_parts : head_end ≡ opening ++ constant
-unfolding constant
+unfolding constant head_end
 head_end_parts = refl
 
 regrouped : (start high quote more close : List ℕ) → start ++ (high ++ quote ++ more) ++ close ≡ start ++ high ++ (quote ++ more ++ close)
 regrouped start high quote more close = simp append_assoc
 
 opens : (high : List ℕ) → codes "<" ++ codes "svg" ++ attributes_text (svg_attributes high) ++ codes ">" ≡ head_start ++ high ++ opening
+unfolding head_start
 opens high =
-    regrouped head_start high (codes "\"") (codes " role=\"img\" aria-labelledby=\"name about\" font-family=\"ui-monospace, Menlo, Consolas, 'DejaVu Sans Mono', monospace\" font-size=\"12\"") (codes ">")
+    regrouped head_start high (codes "\"") (codes " role=\"img\" aria-labelledby=\"name about\" font-family=\"ui-monospace, Menlo, Consolas, 'DejaVu Sans Mono', monospace\" font-size=\"13\"") (codes ">")
 
 svg_are : (n : ℕ) → AreAttributes (svg_attributes (decimal n))
 svg_are n = record { each = both_hold _ true (decimal_value n) refl; distinct = refl }
@@ -124,7 +125,7 @@ svg_are n = record { each = both_hold _ true (decimal_value n) refl; distinct = 
 -- Rows
 
 row_regrouped : (group title text out title' close drawn words group' feed : List ℕ)
-    → group ++ (title ++ text ++ out ++ title' ++ close ++ drawn ++ words) ++ out ++ group' ++ close ++ feed ≡ group ++ title ++ text ++ (out ++ title' ++ close) ++ drawn ++ words ++ (out ++ group' ++ close ++ feed)
+    → group ++ (title ++ text ++ out ++ title' ++ close ++ drawn ++ words) ++ out ++ group' ++ close ++ feed ≡ group ++ title ++ text ++ (out ++ title' ++ close) ++ (drawn ++ (words ++ (out ++ group' ++ close ++ feed)))
 row_regrouped group title text out title' close drawn words group' feed = simp append_assoc
 
 module _ (schema : Schema) (rows : HistoryRows) (count : ℕ) where
@@ -162,7 +163,7 @@ ending count spent = words (codes "text-anchor=\"middle\" font-size=\"16\"") 700
 -- The document
 
 document_regrouped : (begin body one two feed rows words out name close : List ℕ)
-    → begin ++ body ++ one ++ two ++ feed ++ rows ++ (words ++ (feed ++ out ++ name ++ close ++ feed)) ≡ begin ++ (body ++ one ++ two ++ feed ++ rows ++ words ++ feed) ++ out ++ name ++ close ++ feed
+    → begin ++ body ++ (one ++ two ++ feed) ++ rows ++ (words ++ (feed ++ out ++ name ++ close ++ feed)) ≡ begin ++ (body ++ one ++ two ++ feed ++ rows ++ words ++ feed) ++ out ++ name ++ close ++ feed
 document_regrouped begin body one two feed rows words out name close = simp append_assoc
 
 -- the law of documents
@@ -177,7 +178,7 @@ charts_are_well_formed schema lines spent = record {
       ended (beside (beside (ended (beside (beside constant_content (lifeline_content rows.parent side.Parent (length lines))) (lifeline_content rows.child side.Child (length lines)))) (rows_content schema rows (length lines) [] lines))
       (words_content _ ending_style 700 (110 + 20 * length lines) (ending_words spent) (ending_content spent)));
   whole =
-      ap (λ (t : List ℕ). t ++ lifeline rows.parent side.Parent (length lines) ++ lifeline rows.child side.Child (length lines) ++ codes "\n" ++ rows_text schema rows (length lines) [] lines ++ foot (length lines) spent)
+      ap (λ (t : List ℕ). t ++ (lifeline rows.parent side.Parent (length lines) ++ lifeline rows.child side.Child (length lines) ++ codes "\n") ++ rows_text schema rows (length lines) [] lines ++ foot (length lines) spent)
       (ap (λ (t : List ℕ). head_start ++ decimal (130 + 20 * length lines) ++ t) head_end_parts ∙ sym (append_assoc (head_start ++ decimal (130 + 20 * length lines)) opening constant)
       ∙ ap (λ (t : List ℕ). t ++ constant) (sym (opens (decimal (130 + 20 * length lines)))))
       ∙ document_regrouped (codes "<" ++ codes "svg" ++ attributes_text (svg_attributes (decimal (130 + 20 * length lines))) ++ codes ">") constant (lifeline rows.parent side.Parent (length lines))

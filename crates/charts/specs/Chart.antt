@@ -1,5 +1,5 @@
 -- The picture of a history: one SVG document, with two lifelines and a row for each line.
-use Rattle.std.specs.Prelude.{ℕ, ℤ, ◌+◌, ◌*◌, ◌-◌, Bool, true, false, if◌then◌else◌, List, [], ◌∷◌, ◌++◌, codes, length, Option, Some, None}
+use Rattle.std.specs.Prelude.{ℕ, ◌+◌, ◌*◌, ◌-◌, Bool, true, false, if◌then◌else◌, List, [], ◌∷◌, ◌++◌, codes, length, Option, Some, None}
 use Rattle.std.specs.Fmt.{decimal}
 use Rattle.ipdl_base.specs.Lines.{is_effect}
 use Rattle.ipdl_base.specs.declared.kinds.Side.{Side}
@@ -13,7 +13,7 @@ use Rattle.history.specs.Text.{line_begin, returns_named, what_text}
 use Rattle.charts.specs.Escapes.{shown}
 use Rattle.charts.specs.Labels.{cut, row_words}
 use Rattle.charts.specs.Marks.{marks, place_of}
-use Rattle.charts.specs.Rows.{HistoryRows, bottom, rows_from, rows_of}
+use Rattle.charts.specs.Rows.{HistoryRows, bottom, rows_from}
 use Rattle.charts.specs.Strokes.{height, lane, stroke, words}
 use Rattle.charts.specs.declared.marks.Place.{Place}
 use Rattle.charts.specs.declared.rows.SideRows.{SideRows}
@@ -51,8 +51,8 @@ anchor side.Parent = codes "text-anchor=\"end\""
 anchor side.Child = codes "text-anchor=\"start\""
 
 abbrev pub label_place : Side → ℕ
-label_place side.Parent = 500
-label_place side.Child = 900
+label_place side.Parent = 545
+label_place side.Child = 855
 
 -- the label of a row, by the words of its line
 abbrev pub label : Schema → Place → List ℕ → What → List ℕ
@@ -99,7 +99,7 @@ head_start = codes "<svg xmlns=\"http://www.w3.org/2000/svg\" viewBox=\"0 0 1400
 -- its beginning after its height: names for readers that do not see it, colors for dark screens, the head of an arrow, the ground
 -- and the names of the sides
 unfoldable pub head_end : List ℕ
-head_end = codes "\" role=\"img\" aria-labelledby=\"name about\" font-family=\"ui-monospace, Menlo, Consolas, 'DejaVu Sans Mono', monospace\" font-size=\"12\">\n<title id=\"name\">The history of a channel</title>\n<desc id=\"about\">The lifeline of the parent is on the left and that of the child on the right. Each row is a line of the history. Arrows go from a send to its delivery, bars are handlers and waits.</desc>\n<style>@media(prefers-color-scheme:dark){.ground{fill:#16181c}text{fill:#e6e6e6}.trouble{fill:#ffa07a}.life{stroke:#aaa}.request,.outbox,.wait{stroke:#56b4e9}.wait{fill:#16181c}.reply{stroke:#2fc79b}.farewell,.fall{stroke:#ff8c42}.item{stroke:#e58fd2}}</style>\n<defs><marker id=\"head\" viewBox=\"0 0 8 8\" refX=\"8\" refY=\"4\" markerWidth=\"8\" markerHeight=\"8\" markerUnits=\"userSpaceOnUse\" orient=\"auto\"><path fill=\"context-stroke\" d=\"M0 0L8 4L0 8Z\"/></marker></defs>\n<rect class=\"ground\" width=\"100%\" height=\"100%\" fill=\"#fff\"/>\n<text x=\"560\" y=\"32\" text-anchor=\"middle\" font-size=\"16\">parent</text>\n<text x=\"840\" y=\"32\" text-anchor=\"middle\" font-size=\"16\">child</text>\n"
+head_end = codes "\" role=\"img\" aria-labelledby=\"name about\" font-family=\"ui-monospace, Menlo, Consolas, 'DejaVu Sans Mono', monospace\" font-size=\"13\">\n<title id=\"name\">The history of a channel</title>\n<desc id=\"about\">The lifeline of the parent is on the left and that of the child on the right. Each row is a line of the history. Arrows go from a send to its delivery, bars are handlers and waits.</desc>\n<style>@media(prefers-color-scheme:dark){.ground{fill:#16181c}text{fill:#e6e6e6}.trouble{fill:#ffa07a}.life{stroke:#aaa}.request,.outbox,.wait{stroke:#56b4e9}.wait{fill:#16181c}.reply{stroke:#2fc79b}.farewell,.fall{stroke:#ff8c42}.item{stroke:#e58fd2}}</style>\n<defs><marker id=\"head\" viewBox=\"0 0 8 8\" refX=\"8\" refY=\"4\" markerWidth=\"8\" markerHeight=\"8\" markerUnits=\"userSpaceOnUse\" orient=\"auto\"><path fill=\"context-stroke\" d=\"M0 0L8 4L0 8Z\"/></marker></defs>\n<rect class=\"ground\" width=\"100%\" height=\"100%\" fill=\"#fff\"/>\n<text x=\"600\" y=\"32\" text-anchor=\"middle\" font-size=\"16\">parent</text>\n<text x=\"800\" y=\"32\" text-anchor=\"middle\" font-size=\"16\">child</text>\n"
 
 -- how the run ended: the side that has the most events, if one has
 abbrev pub ending_words : Option Side → List ℕ

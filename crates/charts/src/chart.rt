@@ -35,7 +35,7 @@ fn head_start() -> &'static [u8]
 fn head_end() -> &'static [u8]
     ensures { result.now ≡ chart.head_end }
 {
-    b"\" role=\"img\" aria-labelledby=\"name about\" font-family=\"ui-monospace, Menlo, Consolas, 'DejaVu Sans Mono', monospace\" font-size=\"12\">\n<title id=\"name\">The history of a channel</title>\n<desc id=\"about\">The lifeline of the parent is on the left and that of the child on the right. Each row is a line of the history. Arrows go from a send to its delivery, bars are handlers and waits.</desc>\n<style>@media(prefers-color-scheme:dark){.ground{fill:#16181c}text{fill:#e6e6e6}.trouble{fill:#ffa07a}.life{stroke:#aaa}.request,.outbox,.wait{stroke:#56b4e9}.wait{fill:#16181c}.reply{stroke:#2fc79b}.farewell,.fall{stroke:#ff8c42}.item{stroke:#e58fd2}}</style>\n<defs><marker id=\"head\" viewBox=\"0 0 8 8\" refX=\"8\" refY=\"4\" markerWidth=\"8\" markerHeight=\"8\" markerUnits=\"userSpaceOnUse\" orient=\"auto\"><path fill=\"context-stroke\" d=\"M0 0L8 4L0 8Z\"/></marker></defs>\n<rect class=\"ground\" width=\"100%\" height=\"100%\" fill=\"#fff\"/>\n<text x=\"560\" y=\"32\" text-anchor=\"middle\" font-size=\"16\">parent</text>\n<text x=\"840\" y=\"32\" text-anchor=\"middle\" font-size=\"16\">child</text>\n"
+    b"\" role=\"img\" aria-labelledby=\"name about\" font-family=\"ui-monospace, Menlo, Consolas, 'DejaVu Sans Mono', monospace\" font-size=\"13\">\n<title id=\"name\">The history of a channel</title>\n<desc id=\"about\">The lifeline of the parent is on the left and that of the child on the right. Each row is a line of the history. Arrows go from a send to its delivery, bars are handlers and waits.</desc>\n<style>@media(prefers-color-scheme:dark){.ground{fill:#16181c}text{fill:#e6e6e6}.trouble{fill:#ffa07a}.life{stroke:#aaa}.request,.outbox,.wait{stroke:#56b4e9}.wait{fill:#16181c}.reply{stroke:#2fc79b}.farewell,.fall{stroke:#ff8c42}.item{stroke:#e58fd2}}</style>\n<defs><marker id=\"head\" viewBox=\"0 0 8 8\" refX=\"8\" refY=\"4\" markerWidth=\"8\" markerHeight=\"8\" markerUnits=\"userSpaceOnUse\" orient=\"auto\"><path fill=\"context-stroke\" d=\"M0 0L8 4L0 8Z\"/></marker></defs>\n<rect class=\"ground\" width=\"100%\" height=\"100%\" fill=\"#fff\"/>\n<text x=\"600\" y=\"32\" text-anchor=\"middle\" font-size=\"16\">parent</text>\n<text x=\"800\" y=\"32\" text-anchor=\"middle\" font-size=\"16\">child</text>\n"
 }
 
 /// Returns whether a line tells of trouble: a refusal, a drop, a fault, a fall or a death.
@@ -88,8 +88,8 @@ fn label_place(side: Side) -> u32
     ensures { result ≡ chart.label_place side }
 {
     match side {
-        Side::Parent => 500,
-        Side::Child => 900,
+        Side::Parent => 545,
+        Side::Child => 855,
     }
 }
 

@@ -1,6 +1,6 @@
-use Rattle.std.proofs.Common.{◌≡◌, ◌∙◌, ◌++◌, [], ap, ℕ, List}
+use Rattle.std.proofs.Common.{◌∙◌, ◌++◌, ap, ℕ, List}
 use Rattle.charts.specs.Chart.{chart_by}
-use Rattle.charts.specs.Rows.{HistoryRows, rows_from}
+use Rattle.charts.specs.Rows.{HistoryRows}
 use Rattle.charts.specs.Noted.{noted}
 use Rattle.charts.proofs.Known.{rows_known}
 use Rattle.charts.proofs.chart.chart_text.Goals as goal

@@ -1,6 +1,6 @@
-use Rattle.std.proofs.Common.{◌≡◌, ◌∙◌, ◌+◌, ◌-◌, ℕ, ap}
+use Rattle.std.proofs.Common.{◌∙◌, ◌+◌, ◌-◌, ℕ, ap}
 use Rattle.charts.specs.Chart.{cap, life_style}
-use Rattle.charts.specs.Strokes.{height, lane, stroke}
+use Rattle.charts.specs.Strokes.{lane, stroke}
 use Rattle.charts.proofs.Pieces.{same}
 use Rattle.charts.proofs.chart.push_cap.Goals as goal
 

@@ -1,5 +1,5 @@
 use Rattle.std.proofs.Common.{◌≡◌, ◌∙◌, ◌+◌, ◌*◌, ◌++◌, ℕ, List, ap, sym, append_assoc, codes}
-use Rattle.charts.specs.Chart.{ending_words, foot}
+use Rattle.charts.specs.Chart.{ending_words}
 use Rattle.charts.specs.Strokes.{words_begin}
 use Rattle.charts.proofs.Pieces.{follows, joined, last_piece}
 use Rattle.charts.proofs.chart.push_foot.Goals as goal

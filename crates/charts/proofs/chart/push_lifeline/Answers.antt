@@ -1,5 +1,4 @@
-use Rattle.std.proofs.Common.{◌≡◌, ◌∙◌, ◌++◌, [], ℕ, List, if◌then◌else◌, true, false, Bool, sym, ap, append-nil}
-use Rattle.std.specs.Prelude.{OnOk}
+use Rattle.std.proofs.Common.{◌≡◌, ◌∙◌, ◌++◌, [], ℕ, List, if◌then◌else◌, Bool, sym, ap, append-nil}
 use Rattle.charts.specs.Chart.{cap, life_style}
 use Rattle.charts.specs.Rows.{bottom}
 use Rattle.charts.specs.Strokes.{height, lane, stroke}

@@ -1,6 +1,6 @@
 use Rattle.std.proofs.Common.{◌≡◌, ◌++◌, drop}
 use Rattle.std.specs.List.{flat_map}
-use Rattle.charts.specs.Escapes.{shown, xml_byte}
+use Rattle.charts.specs.Escapes.{xml_byte}
 use Rattle.charts.proofs.escapes.push_shown.Given as goal
 
 -- what is written, followed by what is left, is the whole

@@ -1,4 +1,4 @@
-use Rattle.std.proofs.Common.{◌≡◌, ◌∙◌, ◌+◌, ◌≤◌, Some, length, sym, arith, Fits, w64, rules}
+use Rattle.std.proofs.Common.{◌≡◌, ◌∙◌, ◌≤◌, Some, length, sym, rules}
 use Rattle.charts.specs.Labels.{kept_values}
 use Rattle.charts.proofs.Cuts.{kept_values_within}
 use Rattle.charts.proofs.labels.kept_length.Goals as goal

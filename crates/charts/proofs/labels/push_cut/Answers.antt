@@ -1,5 +1,4 @@
-use Rattle.std.proofs.Common.{◌≡◌, ◌∙◌, ◌≤◌, Some, length, sym, rules}
-use Rattle.charts.specs.Labels.{kept_length}
+use Rattle.std.proofs.Common.{◌∙◌, ◌≤◌, length, sym, rules}
 use Rattle.charts.proofs.Cuts.{kept_length_within}
 use Rattle.charts.proofs.labels.push_cut.Goals as goal
 

@@ -1,9 +1,5 @@
-use Rattle.std.proofs.Common.{◌≡◌, ◌∙◌, ap}
-use Rattle.ipdl_base.specs.declared.kinds.Side.{Side}
-use Rattle.ipdl_base.specs.declared.kinds.Side.TheVariants as side
-use Rattle.charts.specs.Noted.{noted, side_noted}
-use Rattle.charts.specs.Rows.{bottom, rows_of}
-use Rattle.charts.specs.declared.rows.Rows.{Rows}
+use Rattle.std.proofs.Common.{◌∙◌, ap}
+use Rattle.charts.specs.Rows.{bottom}
 use Rattle.charts.specs.declared.rows.SideRows.{SideRows}
 use Rattle.charts.proofs.RowLemmas.{side_is_noted}
 use Rattle.charts.proofs.marks.bottom_at.Goals as goal

@@ -1,5 +1,5 @@
 use Rattle.std.proofs.Common.{◌≡◌, ◌∙◌, ◌+◌, ◌-◌, ◌*◌, ◌++◌, ℕ, List, ap}
-use Rattle.charts.specs.Marks.{cross, fall_style}
+use Rattle.charts.specs.Marks.{fall_style}
 use Rattle.charts.specs.Strokes.{lane, stroke}
 use Rattle.charts.proofs.Pieces.{after, same}
 use Rattle.charts.proofs.marks.push_cross.Goals as goal

@@ -1,6 +1,6 @@
-use Rattle.std.proofs.Common.{◌≡◌, ◌∙◌, ℕ, Option, ap}
+use Rattle.std.proofs.Common.{◌≡◌, ◌∙◌, rules, [], Bool, true, if◌then◌else◌, sym, ap}
 use Rattle.ipdl_base.specs.Sides.{other}
-use Rattle.charts.specs.Marks.{arrow_at, farewell_at}
+use Rattle.charts.specs.Marks.{arrow_at, farewell_at, is_closing}
 use Rattle.charts.specs.Noted.{noted, side_noted}
 use Rattle.charts.specs.Rows.{rows_of}
 use Rattle.charts.specs.declared.rows.SideRows.{SideRows}
@@ -15,5 +15,6 @@ returns c =
     let place = c.args.place in
     let to : c.of_side-to.result.farewell ≡ (rows_of (noted rows) (other place.side)).farewell =
     ap (λ (r : SideRows). r.farewell) (c.of_side-to.ensures ∙ (ap (side_noted rows) c.other.ensures ∙ side_is_noted rows (other place.side))) in
+    let closes : is_closing (noted rows) place ≡ true = sym c.is_closing.ensures ∙ (let closes_here : c.is_closing.result ≡ true = search rules in closes_here) in
     same c.push_arrow_at.result c.args.out.now.items c.push_arrow_at.new.out.items (arrow_at Farewell place c.of_side-to.result.farewell) (farewell_at (noted rows) place)
-    (ap (arrow_at Farewell place) to) c.push_arrow_at.ensures
+    (ap (arrow_at Farewell place) to ∙ ap (λ (closing : Bool). if closing then arrow_at Farewell place (rows_of (noted rows) (other place.side)).farewell else []) (sym closes)) c.push_arrow_at.ensures

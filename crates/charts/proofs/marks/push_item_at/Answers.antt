@@ -1,4 +1,4 @@
-use Rattle.std.proofs.Common.{◌≡◌, ◌∙◌, ℕ, rules, ap}
+use Rattle.std.proofs.Common.{◌≡◌, ◌∙◌, ℕ, ap}
 use Rattle.std.specs.Prelude.{unwrap_or}
 use Rattle.charts.specs.Marks.{bottom_at, down, item_at, item_place, item_style}
 use Rattle.charts.specs.Noted.{noted}

@@ -1,7 +1,7 @@
 use Rattle.std.proofs.Common.{◌≡◌, ◌∙◌, ◌++◌, ℕ, Option, List, rules, ap}
 use Rattle.std.specs.HashMap.{get}
 use Rattle.std.specs.Ordering.{int_eq}
-use Rattle.charts.specs.Marks.{bottom_at, down, lazy_at, outbox_place, outbox_style}
+use Rattle.charts.specs.Marks.{bottom_at, down, outbox_place, outbox_style}
 use Rattle.charts.specs.Strokes.{arrow_text}
 use Rattle.charts.specs.declared.strokes.Arrow.TheVariants.{Async}
 use Rattle.charts.specs.Noted.{noted}

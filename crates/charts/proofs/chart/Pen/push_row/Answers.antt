@@ -1,9 +1,8 @@
 use Rattle.std.proofs.Common.{◌≡◌, ◌∙◌, ◌++◌, [], ◌∷◌, ℕ, List, ap}
 use Rattle.ipdl_base.specs.declared.line.Line.{Line}
-use Rattle.history.specs.Text.{line_begin, line_text}
+use Rattle.history.specs.Text.{line_begin}
 use Rattle.charts.specs.Chart.{line_words, row_at}
 use Rattle.charts.specs.Noted.{noted}
-use Rattle.charts.specs.Tallies.{KnowsLines}
 use Rattle.charts.specs.declared.marks.Place.{Place}
 use Rattle.charts.proofs.Slices.{all_but_last, one_at_least}
 use Rattle.charts.proofs.Tallied.{place_known}

@@ -1,7 +1,7 @@
-use Rattle.std.proofs.Common.{◌≡◌, ◌∙◌, ◌+◌, ap}
+use Rattle.std.proofs.Common.{◌∙◌, ◌+◌, ap}
 use Rattle.std.specs.HashMap.{get}
 use Rattle.std.specs.Ordering.{int_eq}
-use Rattle.charts.specs.Rows.{arrival, departure, handler_return, lazy_send, reply_arrival, reply_departure}
+use Rattle.charts.specs.Rows.{arrival, departure, handler_return, reply_arrival, reply_departure}
 use Rattle.charts.specs.declared.rows.SideRows.{SideRows}
 use Rattle.charts.proofs.RowLemmas.{leave_known, leave_more, noted_more}
 use Rattle.charts.proofs.rows.Rows.note.Goals as goal

@@ -1,4 +1,4 @@
-use Rattle.std.proofs.Common.{◌≡◌, ◌≤◌, drop, length}
+use Rattle.std.proofs.Common.{◌≤◌, drop, length}
 use Rattle.charts.specs.Noted.{Knows}
 use Rattle.charts.proofs.rows.Rows.note_all.Given as goal
 
