@@ -1,4 +1,5 @@
 //! Which characters a picture shows of bytes, and where it cuts values.
+ghost use Rattle.std.specs.Prelude.{IfOk};
 ghost use Rattle.ipdl_base.specs.Sound.{IsSound};
 
 use super::cut_rows::{CUTS, CUTS_COUNT};
