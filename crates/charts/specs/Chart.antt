@@ -1,5 +1,5 @@
 -- The picture of a history: one SVG document, with two lifelines and a row for each line.
-use Rattle.std.specs.Prelude.{ℕ, ℤ, ◌+◌, ◌*◌, ◌-◌, Bool, true, false, if◌then◌else◌, List, [], ◌∷◌, ◌++◌, codes, length, Option, Some, None}
+use Rattle.std.specs.Prelude.{ℕ, ◌+◌, ◌*◌, ◌-◌, Bool, true, false, if◌then◌else◌, List, [], ◌∷◌, ◌++◌, codes, length, Option, Some, None}
 use Rattle.std.specs.Fmt.{decimal}
 use Rattle.ipdl_base.specs.Lines.{is_effect}
 use Rattle.ipdl_base.specs.declared.kinds.Side.{Side}
@@ -13,7 +13,7 @@ use Rattle.history.specs.Text.{line_begin, returns_named, what_text}
 use Rattle.charts.specs.Escapes.{shown}
 use Rattle.charts.specs.Labels.{cut, row_words}
 use Rattle.charts.specs.Marks.{marks, place_of}
-use Rattle.charts.specs.Rows.{HistoryRows, bottom, rows_from, rows_of}
+use Rattle.charts.specs.Rows.{HistoryRows, bottom, rows_from}
 use Rattle.charts.specs.Strokes.{height, lane, stroke, words}
 use Rattle.charts.specs.declared.marks.Place.{Place}
 use Rattle.charts.specs.declared.rows.SideRows.{SideRows}
@@ -51,18 +51,21 @@ anchor side.Parent = codes "text-anchor=\"end\""
 anchor side.Child = codes "text-anchor=\"start\""
 
 abbrev pub label_place : Side → ℕ
-label_place side.Parent = 500
-label_place side.Child = 900
+label_place side.Parent = 545
+label_place side.Child = 855
 
 -- the label of a row, by the words of its line
 abbrev pub label : Schema → Place → List ℕ → What → List ℕ
 label schema place text what =
     words (anchor place.side ++ tone what) (label_place place.side) (74 + 20 * place.row) (cut (row_words schema text what))
 
+-- the beginning of a row, and its title
+abbrev pub title : List ℕ → List ℕ
+title text = codes "<g><title>" ++ shown text ++ codes "</title>"
+
 -- A row at a place, by the words of its line: a group that has the whole line as its title, what is drawn of the line, and its label.
 abbrev pub row_at : Schema → HistoryRows → Place → Line → List ℕ → List ℕ
-row_at schema rows place line text =
-    codes "<g><title>" ++ shown (line_begin line ++ text) ++ codes "</title>" ++ marks rows place line.what ++ label schema place text line.what ++ codes "</g>\n"
+row_at schema rows place line text = title (line_begin line ++ text) ++ (marks rows place line.what ++ (label schema place text line.what ++ codes "</g>\n"))
 
 -- the row of a line after others, of so many
 abbrev pub row_text : Schema → HistoryRows → ℕ → List Line → Line → List ℕ
@@ -78,25 +81,25 @@ rows_text schema rows count before (line ∷ rest) = row_text schema rows count 
 abbrev pub life_style : List ℕ
 life_style = codes "class=\"life\" stroke=\"#555\" stroke-width=\"1\""
 
--- the end of a lifeline, if its side has ended
-abbrev pub cap : Bool → Side → ℕ → List ℕ
-cap true side row = stroke life_style (lane side - 12) (height row) (lane side + 12) (height row)
-cap false side row = []
+-- the end of a lifeline
+abbrev pub cap : Side → ℕ → List ℕ
+cap side row = stroke life_style (lane side - 12) (height row) (lane side + 12) (height row)
 
--- the lifeline of a side, down to its end
+-- the lifeline of a side, down to its end, which is marked if the side has ended
 abbrev pub lifeline : SideRows → Side → ℕ → List ℕ
-lifeline rows side count = stroke life_style (lane side) 44 (lane side) (height (bottom rows count)) ++ cap rows.ended side (bottom rows count)
+lifeline rows side count =
+    stroke life_style (lane side) 44 (lane side) (height (bottom rows count)) ++ (if rows.ended then cap side (bottom rows count) else [])
 
 -- The document
 
 -- its beginning, up to its height
-abbrev pub head_start : List ℕ
+unfoldable pub head_start : List ℕ
 head_start = codes "<svg xmlns=\"http://www.w3.org/2000/svg\" viewBox=\"0 0 1400 "
 
 -- its beginning after its height: names for readers that do not see it, colors for dark screens, the head of an arrow, the ground
 -- and the names of the sides
-abbrev pub head_end : List ℕ
-head_end = codes "\" role=\"img\" aria-labelledby=\"name about\" font-family=\"ui-monospace, Menlo, Consolas, 'DejaVu Sans Mono', monospace\" font-size=\"12\">\n<title id=\"name\">The history of a channel</title>\n<desc id=\"about\">The lifeline of the parent is on the left and that of the child on the right. Each row is a line of the history. Arrows go from a send to its delivery, bars are handlers and waits.</desc>\n<style>@media(prefers-color-scheme:dark){.ground{fill:#16181c}text{fill:#e6e6e6}.trouble{fill:#ffa07a}.life{stroke:#aaa}.request,.outbox,.wait{stroke:#56b4e9}.wait{fill:#16181c}.reply{stroke:#2fc79b}.farewell,.fall{stroke:#ff8c42}.item{stroke:#e58fd2}}</style>\n<defs><marker id=\"head\" viewBox=\"0 0 8 8\" refX=\"8\" refY=\"4\" markerWidth=\"8\" markerHeight=\"8\" markerUnits=\"userSpaceOnUse\" orient=\"auto\"><path fill=\"context-stroke\" d=\"M0 0L8 4L0 8Z\"/></marker></defs>\n<rect class=\"ground\" width=\"100%\" height=\"100%\" fill=\"#fff\"/>\n<text x=\"560\" y=\"32\" text-anchor=\"middle\" font-size=\"16\">parent</text>\n<text x=\"840\" y=\"32\" text-anchor=\"middle\" font-size=\"16\">child</text>\n"
+unfoldable pub head_end : List ℕ
+head_end = codes "\" role=\"img\" aria-labelledby=\"name about\" font-family=\"ui-monospace, Menlo, Consolas, 'DejaVu Sans Mono', monospace\" font-size=\"13\">\n<title id=\"name\">The history of a channel</title>\n<desc id=\"about\">The lifeline of the parent is on the left and that of the child on the right. Each row is a line of the history. Arrows go from a send to its delivery, bars are handlers and waits.</desc>\n<style>@media(prefers-color-scheme:dark){.ground{fill:#16181c}text{fill:#e6e6e6}.trouble{fill:#ffa07a}.life{stroke:#aaa}.request,.outbox,.wait{stroke:#56b4e9}.wait{fill:#16181c}.reply{stroke:#2fc79b}.farewell,.fall{stroke:#ff8c42}.item{stroke:#e58fd2}}</style>\n<defs><marker id=\"head\" viewBox=\"0 0 8 8\" refX=\"8\" refY=\"4\" markerWidth=\"8\" markerHeight=\"8\" markerUnits=\"userSpaceOnUse\" orient=\"auto\"><path fill=\"context-stroke\" d=\"M0 0L8 4L0 8Z\"/></marker></defs>\n<rect class=\"ground\" width=\"100%\" height=\"100%\" fill=\"#fff\"/>\n<text x=\"600\" y=\"32\" text-anchor=\"middle\" font-size=\"16\">parent</text>\n<text x=\"800\" y=\"32\" text-anchor=\"middle\" font-size=\"16\">child</text>\n"
 
 -- how the run ended: the side that has the most events, if one has
 abbrev pub ending_words : Option Side → List ℕ
@@ -108,10 +111,13 @@ ending_words (Some side.Child) = codes "spent child"
 abbrev pub foot : ℕ → Option Side → List ℕ
 foot count spent = words (codes "text-anchor=\"middle\" font-size=\"16\"") 700 (110 + 20 * count) (ending_words spent) ++ codes "\n</svg>\n"
 
+-- its beginning up to the lifelines, for so many rows
+abbrev pub opening : ℕ → List ℕ
+opening count = head_start ++ decimal (130 + 20 * count) ++ head_end
+
 -- its beginning, with the lifelines of so many rows
 abbrev pub head : HistoryRows → ℕ → List ℕ
-head rows count =
-    head_start ++ decimal (130 + 20 * count) ++ head_end ++ lifeline rows.parent side.Parent count ++ lifeline rows.child side.Child count ++ codes "\n"
+head rows count = opening count ++ (lifeline rows.parent side.Parent count ++ lifeline rows.child side.Child count ++ codes "\n")
 
 -- the picture of lines, by their rows
 abbrev pub chart_by : Schema → HistoryRows → List Line → Option Side → List ℕ

@@ -1,6 +1,5 @@
 -- The label of a row: the words of its line, with long values cut.
-use Rattle.std.specs.Prelude.{ℕ, ℤ, suc, ◌-◌, ◌==◌, ◌&&◌, nat_lt, Bool, true, false, if◌then◌else◌, List, [], ◌∷◌, ◌++◌, codes, length, Option, Some, None, take, option_map}
-use Rattle.std.specs.Fmt.{signed_decimal}
+use Rattle.std.specs.Prelude.{ℕ, ℤ, suc, ◌-◌, ◌==◌, ◌&&◌, nat_lt, Bool, if◌then◌else◌, List, [], ◌∷◌, ◌++◌, codes, length, Option, Some, None, take, option_map}
 use Rattle.std.specs.Ordering.{int_eq}
 use Rattle.ipdl_base.specs.declared.line.What.{What}
 use Rattle.ipdl_base.specs.declared.line.What.TheVariants as what
@@ -15,14 +14,14 @@ abbrev pub is_continuation : ℕ → Bool
 is_continuation byte = nat_lt 127 byte && nat_lt byte 192
 
 -- How many bytes of values and the bracket after them are kept, if they have more than so many characters before it.
-unfoldable pub kept_values : ℕ → List ℕ → Option ℕ
+abbrev pub kept_values : ℕ → List ℕ → Option ℕ
 kept_values left [] = None
 kept_values left (byte ∷ rest) =
     if is_continuation byte then option_map suc (kept_values left rest) else
     (if left == 0 then (if length rest == 0 then None else Some 0) else option_map suc (kept_values (left - 1) rest))
 
 -- How many bytes of a line are kept, if its values, which are in brackets at its end, have more than 40 characters.
-unfoldable pub kept_length : List ℕ → Option ℕ
+abbrev pub kept_length : List ℕ → Option ℕ
 kept_length [] = None
 kept_length (byte ∷ rest) = option_map suc (if byte == 40 then kept_values 40 rest else kept_length rest)
 

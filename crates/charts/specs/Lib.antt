@@ -1,6 +1,10 @@
 pub mod Chart
+pub mod Documents
 pub mod Escapes
+pub mod Firsts
+pub mod Joins
 pub mod Labels
+pub mod Laws
 pub mod Marks
 pub mod Noted
 pub mod Rows

@@ -1,5 +1,6 @@
 -- What is drawn of a line.
-use Rattle.std.specs.Prelude.{ℕ, ℤ, ◌+◌, ◌*◌, ◌-◌, ◌%◌, min, Bool, true, false, if◌then◌else◌, List, [], ◌∷◌, ◌++◌, codes, length, Option, Some, None, unwrap_or}
+use Rattle.std.specs.Option.{option_map_or}
+use Rattle.std.specs.Prelude.{ℕ, ℤ, ◌+◌, ◌*◌, ◌-◌, ◌%◌, ◌==◌, min, Bool, true, false, if◌then◌else◌, List, [], ◌∷◌, ◌++◌, codes, length, Option, Some, None, unwrap_or}
 use Rattle.ipdl_base.specs.Sides.{other}
 use Rattle.ipdl_base.specs.declared.kinds.Side.{Side}
 use Rattle.ipdl_base.specs.declared.kinds.Side.TheVariants as side
@@ -14,18 +15,18 @@ use Rattle.charts.specs.declared.strokes.Arrow.TheVariants.{Async, Farewell, Rep
 
 -- where a bar is, by how many others of its side it lies in
 abbrev pub bar_place : Side → ℕ → ℕ
-bar_place side.Parent depth = 555 - 5 * min depth 9
-bar_place side.Child depth = 835 + 5 * min depth 9
+bar_place side.Parent depth = 595 - 5 * min depth 9
+bar_place side.Child depth = 795 + 5 * min depth 9
 
 -- where a waiting item is, by how many arrived before it
 abbrev pub item_place : Side → ℕ → ℕ
-item_place side.Parent count = 570 + 4 * (count % 8)
-item_place side.Child count = 830 - 4 * (count % 8)
+item_place side.Parent count = 618 + 4 * (count % 8)
+item_place side.Child count = 782 - 4 * (count % 8)
 
 -- where an outbox is
 abbrev pub outbox_place : Side → ℕ
-outbox_place side.Parent = 566
-outbox_place side.Child = 834
+outbox_place side.Parent = 611
+outbox_place side.Child = 789
 
 -- from a row down to another, or to the bottom of the side
 abbrev pub size : ℕ → ℕ → ℕ
@@ -41,7 +42,7 @@ abbrev pub item_style : List ℕ
 item_style = codes "class=\"item\" stroke=\"#aa4499\" stroke-width=\"3\""
 
 abbrev pub outbox_style : List ℕ
-outbox_style = codes "class=\"outbox\" stroke=\"#0072b2\" stroke-width=\"2\" stroke-dasharray=\"1 3\""
+outbox_style = codes "class=\"outbox\" stroke=\"#0072b2\" stroke-width=\"2\" stroke-dasharray=\"2 3\""
 
 abbrev pub fall_style : List ℕ
 fall_style = codes "class=\"fall\" stroke=\"#b34700\" stroke-width=\"2\""
@@ -92,6 +93,14 @@ send_at rows place n (Some left) = lazy_at rows place n left
 abbrev pub call_at : HistoryRows → Place → ℤ → List ℕ
 call_at rows place n = bar_at rows place wait_style (rows.reply_departures n) ++ arrow_at Sync place (rows.arrivals n)
 
+-- whether the row of a place is the first at which an end of the channel is sent or arrives at its side
+abbrev pub is_closing : HistoryRows → Place → Bool
+is_closing rows place = option_map_or (λ row. row == place.row) (rows_of rows place.side).closing false
+
+-- the arrow of a goodbye, or of a death, which is sent only if no end of the channel was sent or arrived before
+abbrev pub farewell_at : HistoryRows → Place → List ℕ
+farewell_at rows place = if is_closing rows place then arrow_at Farewell place (rows_of rows (other place.side)).farewell else []
+
 -- a cross on the lifeline, where an actor falls
 abbrev pub cross : Place → List ℕ
 cross place =
@@ -109,7 +118,7 @@ marks rows place (what.AnswerFault n reason) = arrow_at Reply place (rows.reply_
 marks rows place (what.DeliverRequest n) = item_at rows place (rows.departures n)
 marks rows place (what.DeliverReply n) = item_at rows place (rows.reply_departures n)
 marks rows place (what.Take n route message values) = bar_at rows place dispatch_style (rows.returns n)
-marks rows place what.Close = arrow_at Farewell place (rows_of rows (other place.side)).farewell
-marks rows place what.Die = arrow_at Farewell place (rows_of rows (other place.side)).farewell
+marks rows place what.Close = farewell_at rows place
+marks rows place what.Die = farewell_at rows place
 marks rows place (what.Fall id destroy) = cross place
 marks rows place _ = []

@@ -1,5 +1,5 @@
 -- Where the things happen in a history that arrows, bars and waiting items join. A row is the index of a line.
-use Rattle.std.specs.Prelude.{ℕ, ℤ, suc, Bool, true, false, ◌&&◌, not, if◌then◌else◌, List, [], ◌∷◌, Option, Some, None, is_some, unwrap_or}
+use Rattle.std.specs.Prelude.{ℕ, ℤ, ◌+◌, Bool, true, false, ◌&&◌, not, if◌then◌else◌, List, [], ◌∷◌, Option, Some, None, is_some, unwrap_or}
 use Rattle.std.specs.List.{list_any, count_by}
 use Rattle.std.specs.Option.{option_map_or}
 use Rattle.std.specs.Ordering.{int_eq}
@@ -47,9 +47,15 @@ abbrev pub is_number : ℤ → Option ℤ → Bool
 is_number n given = option_map_or (λ m. int_eq m n) given false
 
 -- the first row that gives a number, of lines from a row on
-unfoldable pub row_from : ℕ → (What → Option ℤ) → List Line → ℤ → Option ℕ
+abbrev pub row_from : ℕ → (What → Option ℤ) → List Line → ℤ → Option ℕ
 row_from row number [] n = None
-row_from row number (line ∷ rest) n = if is_number n (number line.what) then Some row else row_from (suc row) number rest n
+row_from row number (line ∷ rest) n = if is_number n (number line.what) then Some row else row_from (row + 1) number rest n
+
+-- whether the other end's farewell arrives
+abbrev pub is_farewell : What → Bool
+is_farewell what.DeliverGoodbye = true
+is_farewell what.DeliverBroken = true
+is_farewell _ = false
 
 -- Lazy sends
 
@@ -76,23 +82,24 @@ empties_outbox schema what.Die = true
 empties_outbox schema _ = false
 
 -- the first row from which a test holds of a line of a side
-unfoldable pub side_row_from : ℕ → Side → (What → Bool) → List Line → Option ℕ
+abbrev pub side_row_from : ℕ → Side → (What → Bool) → List Line → Option ℕ
 side_row_from row side test [] = None
-side_row_from row side test (line ∷ rest) = if same_side line.side side && test line.what then Some row else side_row_from (suc row) side test rest
+side_row_from row side test (line ∷ rest) = if same_side line.side side && test line.what then Some row else side_row_from (row + 1) side test rest
+
+-- The row at which what waits in the outbox of a side leaves, if it does: the other end's farewell drops it.
+abbrev pub outbox_row_from : ℕ → Schema → Side → List Line → Option ℕ
+outbox_row_from row schema side [] = None
+outbox_row_from row schema side (line ∷ rest) =
+    if same_side line.side side && is_farewell line.what then None else
+    (if same_side line.side side && empties_outbox schema line.what then Some row else outbox_row_from (row + 1) schema side rest)
 
 -- the row at which a lazy send leaves, if it does; nothing of a request that is not sent lazily
-unfoldable pub leave_from : ℕ → Schema → List Line → ℤ → Option (Option ℕ)
+abbrev pub leave_from : ℕ → Schema → List Line → ℤ → Option (Option ℕ)
 leave_from row schema [] n = None
 leave_from row schema (line ∷ rest) n =
-    if is_number n (lazy_send schema line.what) then Some (side_row_from (suc row) line.side (empties_outbox schema) rest) else leave_from (suc row) schema rest n
+    if is_number n (lazy_send schema line.what) then Some (outbox_row_from (row + 1) schema line.side rest) else leave_from (row + 1) schema rest n
 
 -- Sides
-
--- whether the other end's farewell arrives
-abbrev pub is_farewell : What → Bool
-is_farewell what.DeliverGoodbye = true
-is_farewell what.DeliverBroken = true
-is_farewell _ = false
 
 -- whether an end closes or dies
 abbrev pub is_end : What → Bool
@@ -102,11 +109,19 @@ is_end what.ShutNormal = true
 is_end what.ShutAbnormal = true
 is_end _ = false
 
+-- whether an end of the channel is sent or arrives at a side: nothing is sent after it
+abbrev pub ends_channel : What → Bool
+ends_channel what.Close = true
+ends_channel what.Die = true
+ends_channel what.DeliverGoodbye = true
+ends_channel what.DeliverBroken = true
+ends_channel _ = false
+
 -- the last row of a side, of lines from a row on
-unfoldable pub last_row_from : ℕ → Side → List Line → Option ℕ
+abbrev pub last_row_from : ℕ → Side → List Line → Option ℕ
 last_row_from row side [] = None
 last_row_from row side (line ∷ rest) =
-    if is_some (last_row_from (suc row) side rest) then last_row_from (suc row) side rest else
+    if is_some (last_row_from (row + 1) side rest) then last_row_from (row + 1) side rest else
     (if same_side line.side side then Some row else None)
 
 -- whether a side ends
@@ -140,14 +155,15 @@ count_of test side lines = count_by (λ line. same_side line.side side && test l
 
 -- Of a whole history
 
--- the last row of a side, whether the side ends, and the first rows at which the other end's farewell arrives and at which what
--- waits in the outbox leaves, of lines from a row on
+-- the last row of a side, whether the side ends, and the first rows at which the other end's farewell arrives, at which an end of the
+-- channel is sent or arrives, and at which what waits in the outbox leaves, of lines from a row on
 abbrev pub side_rows : Schema → ℕ → Side → List Line → SideRows
 side_rows schema row side lines = record {
   last = last_row_from row side lines;
   ended = has_ended side lines;
   farewell = side_row_from row side is_farewell lines;
-  leave = side_row_from row side (empties_outbox schema) lines;
+  closing = side_row_from row side ends_channel lines;
+  leave = outbox_row_from row schema side lines;
 }
 
 -- The rows at which a request and a reply arrive and no longer wait, a handler returns and a lazy send leaves, by the number of the

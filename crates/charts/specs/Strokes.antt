@@ -1,5 +1,5 @@
 -- The text of each mark of a picture.
-use Rattle.std.specs.Prelude.{ℕ, ◌+◌, ◌*◌, ◌-◌, Bool, true, false, if◌then◌else◌, List, [], ◌∷◌, ◌++◌, codes, Option, Some, None, is_some, unwrap_or}
+use Rattle.std.specs.Prelude.{ℕ, ◌+◌, ◌*◌, Bool, true, false, List, ◌++◌, codes, Option, is_some, unwrap_or}
 use Rattle.std.specs.Fmt.{decimal}
 use Rattle.ipdl_base.specs.Sides.{other}
 use Rattle.ipdl_base.specs.declared.kinds.Side.{Side}
@@ -13,8 +13,13 @@ height row = 70 + 20 * row
 
 -- where the lifeline of a side is
 abbrev pub lane : Side → ℕ
-lane side.Parent = 560
-lane side.Child = 840
+lane side.Parent = 600
+lane side.Child = 800
+
+-- where arrows begin and end at a side: beside the lifeline, toward the other
+abbrev pub edge : Side → ℕ
+edge side.Parent = 607
+edge side.Child = 793
 
 -- two numbers with a text between them
 abbrev pub pair : ℕ → List ℕ → ℕ → List ℕ
@@ -65,4 +70,4 @@ arrow_end false = codes " opacity=\".5\""
 -- An arrow of a side from a row to the row of the other side at which it arrives, or to the bottom if it does not.
 abbrev pub arrow_text : Arrow → Side → ℕ → Option ℕ → ℕ → List ℕ
 arrow_text kind side from to bottom =
-    stroke (arrow_style kind ++ arrow_end (is_some to)) (lane side) (height from) (lane (other side)) (height (unwrap_or to bottom))
+    stroke (arrow_style kind ++ arrow_end (is_some to)) (edge side) (height from) (edge (other side)) (height (unwrap_or to bottom))

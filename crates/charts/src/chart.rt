@@ -1,10 +1,9 @@
 //! The picture of a history.
-ghost use Rattle.std.specs.Prelude.{◌≡◌, ◌++◌, ◌∷◌, [], ℕ, length, List, IfOk, OnOk, codes};
+ghost use Rattle.std.specs.Prelude.{◌≡◌, ◌++◌, ◌∷◌, [], ℕ, length, List, IfOk, OnOk};
 ghost use Rattle.ipdl_base.specs.Sound.{IsSound};
 ghost use Rattle.ipdl_base.specs.declared.line.Line.{Line as TheLine};
 ghost use Rattle.history.specs.Text.{line_begin};
 ghost use Rattle.charts.specs.Chart as chart;
-ghost use Rattle.charts.specs.Escapes.{shown};
 ghost use Rattle.charts.specs.Noted.{noted};
 ghost use Rattle.charts.specs.Tallies.{AreBelow, KnowsLines, place_by, tally_at};
 
@@ -22,12 +21,22 @@ use value_types::push_decimal;
 /// The style of a lifeline.
 const LIFE_STYLE: &[u8] = b"class=\"life\" stroke=\"#555\" stroke-width=\"1\"";
 
-/// The beginning of the document, up to its height.
-const HEAD_START: &[u8] = b"<svg xmlns=\"http://www.w3.org/2000/svg\" viewBox=\"0 0 1400 ";
+/// Returns the beginning of the document, up to its height.
+#[tactic(auto, unfolding(crate::specs::Chart::head_start))]
+fn head_start() -> &'static [u8]
+    ensures { result.now ≡ chart.head_start }
+{
+    b"<svg xmlns=\"http://www.w3.org/2000/svg\" viewBox=\"0 0 1400 "
+}
 
-/// The beginning of the document after its height.
-const HEAD_END: &[u8] =
-    b"\" role=\"img\" aria-labelledby=\"name about\" font-family=\"ui-monospace, Menlo, Consolas, 'DejaVu Sans Mono', monospace\" font-size=\"12\">\n<title id=\"name\">The history of a channel</title>\n<desc id=\"about\">The lifeline of the parent is on the left and that of the child on the right. Each row is a line of the history. Arrows go from a send to its delivery, bars are handlers and waits.</desc>\n<style>@media(prefers-color-scheme:dark){.ground{fill:#16181c}text{fill:#e6e6e6}.trouble{fill:#ffa07a}.life{stroke:#aaa}.request,.outbox,.wait{stroke:#56b4e9}.wait{fill:#16181c}.reply{stroke:#2fc79b}.farewell,.fall{stroke:#ff8c42}.item{stroke:#e58fd2}}</style>\n<defs><marker id=\"head\" viewBox=\"0 0 8 8\" refX=\"8\" refY=\"4\" markerWidth=\"8\" markerHeight=\"8\" markerUnits=\"userSpaceOnUse\" orient=\"auto\"><path fill=\"context-stroke\" d=\"M0 0L8 4L0 8Z\"/></marker></defs>\n<rect class=\"ground\" width=\"100%\" height=\"100%\" fill=\"#fff\"/>\n<text x=\"560\" y=\"32\" text-anchor=\"middle\" font-size=\"16\">parent</text>\n<text x=\"840\" y=\"32\" text-anchor=\"middle\" font-size=\"16\">child</text>\n";
+/// Returns the beginning of the document after its height: names for readers that do not see it, colors for dark screens, the
+/// head of an arrow, the ground and the names of the sides.
+#[tactic(auto, unfolding(crate::specs::Chart::head_end))]
+fn head_end() -> &'static [u8]
+    ensures { result.now ≡ chart.head_end }
+{
+    b"\" role=\"img\" aria-labelledby=\"name about\" font-family=\"ui-monospace, Menlo, Consolas, 'DejaVu Sans Mono', monospace\" font-size=\"13\">\n<title id=\"name\">The history of a channel</title>\n<desc id=\"about\">The lifeline of the parent is on the left and that of the child on the right. Each row is a line of the history. Arrows go from a send to its delivery, bars are handlers and waits.</desc>\n<style>@media(prefers-color-scheme:dark){.ground{fill:#16181c}text{fill:#e6e6e6}.trouble{fill:#ffa07a}.life{stroke:#aaa}.request,.outbox,.wait{stroke:#56b4e9}.wait{fill:#16181c}.reply{stroke:#2fc79b}.farewell,.fall{stroke:#ff8c42}.item{stroke:#e58fd2}}</style>\n<defs><marker id=\"head\" viewBox=\"0 0 8 8\" refX=\"8\" refY=\"4\" markerWidth=\"8\" markerHeight=\"8\" markerUnits=\"userSpaceOnUse\" orient=\"auto\"><path fill=\"context-stroke\" d=\"M0 0L8 4L0 8Z\"/></marker></defs>\n<rect class=\"ground\" width=\"100%\" height=\"100%\" fill=\"#fff\"/>\n<text x=\"600\" y=\"32\" text-anchor=\"middle\" font-size=\"16\">parent</text>\n<text x=\"800\" y=\"32\" text-anchor=\"middle\" font-size=\"16\">child</text>\n"
+}
 
 /// Returns whether a line tells of trouble: a refusal, a drop, a fault, a fall or a death.
 fn is_trouble(what: &What) -> bool
@@ -79,8 +88,8 @@ fn label_place(side: Side) -> u32
     ensures { result ≡ chart.label_place side }
 {
     match side {
-        Side::Parent => 500,
-        Side::Child => 900,
+        Side::Parent => 545,
+        Side::Child => 855,
     }
 }
 
@@ -109,7 +118,7 @@ fn push_label(
 
 /// Appends the title of a row.
 fn push_title(out: &mut Vec<u8>, title: &[u8]) -> Result<(), AllocError>
-    ensures { OnOk result (out.new.items ≡ out.old.items ++ (codes "<g><title>" ++ shown title.now ++ codes "</title>")) }
+    ensures { OnOk result (out.new.items ≡ out.old.items ++ chart.title title.now) }
 {
     out.extend_from_slice(b"<g><title>")?;
     push_shown(out, title)?;
@@ -246,25 +255,21 @@ impl Pen {
     }
 }
 
-/// Appends the end of a lifeline, if its side has ended.
-fn push_cap(out: &mut Vec<u8>, ended: bool, side: Side, row: usize) -> Result<(), AllocError>
-    ensures { OnOk result (out.new.items ≡ out.old.items ++ chart.cap ended side row) }
+/// Appends the end of a lifeline.
+fn push_cap(out: &mut Vec<u8>, side: Side, row: usize) -> Result<(), AllocError>
+    ensures { OnOk result (out.new.items ≡ out.old.items ++ chart.cap side row) }
 {
-    if !ended {
-        return Ok(());
-    }
-    let left = Point {
-        x: lane(side) - 12,
-        y: height(row),
-    };
-    let right = Point {
-        x: lane(side) + 12,
-        y: height(row),
-    };
-    push_stroke(out, LIFE_STYLE, left, right)
+    let x = lane(side);
+    let y = height(row);
+    push_stroke(
+        out,
+        LIFE_STYLE,
+        Point { x: x - 12, y },
+        Point { x: x + 12, y },
+    )
 }
 
-/// Appends the lifeline of a side, down to its end.
+/// Appends the lifeline of a side, down to its end, which is marked if the side has ended.
 fn push_lifeline(
     out: &mut Vec<u8>,
     rows: SideRows,
@@ -275,21 +280,29 @@ fn push_lifeline(
 {
     let bottom = rows.bottom(count);
     let x = lane(side);
-    let end = Point {
-        x,
-        y: height(bottom),
-    };
-    push_stroke(out, LIFE_STYLE, Point { x, y: 44 }, end)?;
-    push_cap(out, rows.ended, side, bottom)
+    let y = height(bottom);
+    push_stroke(out, LIFE_STYLE, Point { x, y: 44 }, Point { x, y })?;
+    if rows.ended {
+        push_cap(out, side, bottom)
+    } else {
+        Ok(())
+    }
+}
+
+/// Appends the beginning of the document, up to the lifelines.
+fn push_opening(out: &mut Vec<u8>, count: usize) -> Result<(), AllocError>
+    ensures { OnOk result (out.new.items ≡ out.old.items ++ chart.opening count) }
+{
+    out.extend_from_slice(head_start())?;
+    push_decimal(out, 130 + 20 * (count as u128))?;
+    out.extend_from_slice(head_end())
 }
 
 /// Appends the beginning of the document, with the lifelines of so many rows.
 fn push_head(out: &mut Vec<u8>, rows: &Rows, count: usize) -> Result<(), AllocError>
     ensures { OnOk result (out.new.items ≡ out.old.items ++ chart.head (noted rows.now) count) }
 {
-    out.extend_from_slice(HEAD_START)?;
-    push_decimal(out, 130 + 20 * (count as u128))?;
-    out.extend_from_slice(HEAD_END)?;
+    push_opening(out, count)?;
     push_lifeline(out, rows.parent, Side::Parent, count)?;
     push_lifeline(out, rows.child, Side::Child, count)?;
     out.extend_from_slice(b"\n")
@@ -314,7 +327,7 @@ fn push_foot(out: &mut Vec<u8>, count: usize, spent: Option<Side>) -> Result<(),
         x: 700,
         y: 110 + 20 * (count as u128),
     };
-    push_words_begin(out, b"text-anchor=\"middle\" font-size=\"16\"", b"", at)?;
+    push_words_begin(out, b"text-anchor=\"middle\"", b" font-size=\"16\"", at)?;
     out.extend_from_slice(ending_words(spent))?;
     out.extend_from_slice(b"</text>\n</svg>\n")
 }

@@ -23,19 +23,17 @@ fn kept_values(values: &[u8]) -> Option<usize>
     ensures { result ≡ label.kept_values 40 values.now }
 {
     let mut left = MOST_CHARACTERS;
-    let mut at = 0;
-    while at < values.len() {
-        if !is_continuation(values[at]) {
+    let mut kept = 0;
+    let mut rest = values;
+    while let Some((byte, more)) = rest.split_first() {
+        if !is_continuation(*byte) {
             if left == 0 {
-                return if at + 1 == values.len() {
-                    None
-                } else {
-                    Some(at)
-                };
+                return if more.is_empty() { None } else { Some(kept) };
             }
             left -= 1;
         }
-        at += 1;
+        kept += 1;
+        rest = more;
     }
     None
 }
@@ -44,15 +42,17 @@ fn kept_values(values: &[u8]) -> Option<usize>
 fn kept_length(text: &[u8]) -> Option<usize>
     ensures { result ≡ label.kept_length text.now }
 {
-    let mut at = 0;
-    while at < text.len() {
-        if text[at] == b'(' {
-            return match kept_values(&text[at + 1..]) {
+    let mut kept = 0;
+    let mut rest = text;
+    while let Some((byte, more)) = rest.split_first() {
+        kept += 1;
+        if *byte == b'(' {
+            return match kept_values(more) {
                 None => None,
-                Some(kept) => Some(at + 1 + kept),
+                Some(values) => Some(kept + values),
             };
         }
-        at += 1;
+        rest = more;
     }
     None
 }

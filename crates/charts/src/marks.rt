@@ -29,8 +29,8 @@ fn bar_place(side: Side, depth: usize) -> u32
 {
     let shift = 5 * depth.min(9) as u32;
     match side {
-        Side::Parent => 555 - shift,
-        Side::Child => 835 + shift,
+        Side::Parent => 595 - shift,
+        Side::Child => 795 + shift,
     }
 }
 
@@ -40,8 +40,8 @@ fn item_place(side: Side, count: usize) -> u32
 {
     let shift = 4 * (count % 8) as u32;
     match side {
-        Side::Parent => 570 + shift,
-        Side::Child => 830 - shift,
+        Side::Parent => 618 + shift,
+        Side::Child => 782 - shift,
     }
 }
 
@@ -50,8 +50,8 @@ fn outbox_place(side: Side) -> u32
     ensures { result ≡ mark.outbox_place side }
 {
     match side {
-        Side::Parent => 566,
-        Side::Child => 834,
+        Side::Parent => 611,
+        Side::Child => 789,
     }
 }
 
@@ -133,7 +133,7 @@ fn push_lazy_at(
 ) -> Result<(), AllocError>
     ensures { OnOk result (out.new.items ≡ out.old.items ++ mark.lazy_at (noted rows.now) place number leave) }
 {
-    let style = b"class=\"outbox\" stroke=\"#0072b2\" stroke-width=\"2\" stroke-dasharray=\"1 3\"";
+    let style = b"class=\"outbox\" stroke=\"#0072b2\" stroke-width=\"2\" stroke-dasharray=\"2 3\"";
     let x = outbox_place(place.side);
     match leave {
         None => push_down(out, style, place, x, bottom_at(rows, place)),
@@ -201,6 +201,27 @@ fn push_cross(out: &mut Vec<u8>, place: Place) -> Result<(), AllocError>
     )
 }
 
+/// Returns whether the row of a place is the first at which an end of the channel is sent or arrives at its side.
+fn is_closing(rows: &Rows, place: Place) -> bool
+    ensures { result ≡ mark.is_closing (noted rows.now) place }
+{
+    match rows.of_side(place.side).closing {
+        Some(row) => row == place.row,
+        None => false,
+    }
+}
+
+/// Appends the arrow of a goodbye, or of a death, unless an end of the channel was sent or arrived before.
+fn push_farewell_at(out: &mut Vec<u8>, rows: &Rows, place: Place) -> Result<(), AllocError>
+    ensures { OnOk result (out.new.items ≡ out.old.items ++ mark.farewell_at (noted rows.now) place) }
+{
+    if !is_closing(rows, place) {
+        return Ok(());
+    }
+    let to = rows.of_side(place.side.other()).farewell;
+    push_arrow_at(out, Arrow::Farewell, place, to)
+}
+
 /// Appends what is drawn of a line at its place: arrows, bars, what waits, and falls.
 pub fn push_marks(
     out: &mut Vec<u8>,
@@ -231,14 +252,7 @@ pub fn push_marks(
             push_item_at(out, rows, place, rows.reply_departures.get(number).copied())
         }
         What::Take(number, ..) => push_take_at(out, rows, place, *number),
-        What::Close | What::Die => {
-            push_arrow_at(
-                out,
-                Arrow::Farewell,
-                place,
-                rows.of_side(place.side.other()).farewell,
-            )
-        }
+        What::Close | What::Die => push_farewell_at(out, rows, place),
         What::Fall(..) => push_cross(out, place),
         _ => Ok(()),
     }

@@ -1,5 +1,5 @@
 //! The rows of what arrows, bars and waiting items join.
-ghost use Rattle.std.specs.Prelude.{◌≡◌, ◌+◌, ◌∷◌, [], ℕ, ℤ, length, List, Some, IfOk, OnOk, if◌then◌else◌};
+ghost use Rattle.std.specs.Prelude.{◌≡◌, ◌+◌, ◌∷◌, [], ℕ, ℤ, length, List, None, Some, IfOk, OnOk, if◌then◌else◌};
 ghost use Rattle.std.specs.HashMap.{get};
 ghost use Rattle.std.specs.Ordering.{int_eq};
 ghost use Rattle.ipdl_base.specs.declared.line.Line.{Line as TheLine};
@@ -23,7 +23,9 @@ pub struct SideRows {
     pub ended: bool,
     /// The first row at which the other end's farewell arrives.
     pub farewell: Option<usize>,
-    /// The first row at which what waits in the outbox leaves.
+    /// The first row at which an end of the channel is sent or arrives.
+    pub closing: Option<usize>,
+    /// The first row at which what waits in the outbox leaves, unless it is dropped before.
     pub leave: Option<usize>,
 }
 
@@ -164,6 +166,16 @@ fn is_end(what: &What) -> bool
     )
 }
 
+/// Returns whether an end of the channel is sent or arrives at a side.
+fn ends_channel(what: &What) -> bool
+    ensures { result ≡ rows.ends_channel what.now }
+{
+    matches!(
+        what,
+        What::Close | What::Die | What::DeliverGoodbye | What::DeliverBroken
+    )
+}
+
 /// Records the row at which a number is given, in place of a later one.
 fn note(map: &mut IndexMap<i32, usize>, number: Option<i32>, row: usize) -> Result<(), AllocError>
     ensures { OnOk result ((n : ℤ) → get int_eq map.new n ≡ (if rows.is_number n number then Some row else get int_eq map.old n)) }
@@ -195,6 +207,18 @@ fn first_row(holds: bool, row: usize, later: Option<usize>) -> Option<usize>
     if holds { Some(row) } else { later }
 }
 
+/// Returns the row at which what waits in an outbox leaves, by a line of its side and a later row.
+fn leave_row(schema: &Schema, what: &What, row: usize, later: Option<usize>) -> Option<usize>
+    requires { IsSound schema.now }
+    ensures { result ≡ (if rows.is_farewell what.now then None else (if rows.empties_outbox schema.now what.now then Some row else later)) }
+{
+    if is_farewell(what) {
+        None
+    } else {
+        first_row(empties_outbox(schema, what), row, later)
+    }
+}
+
 impl SideRows {
     /// Returns the rows of a side of no lines.
     fn none() -> SideRows
@@ -204,6 +228,7 @@ impl SideRows {
             last: None,
             ended: false,
             farewell: None,
+            closing: None,
             leave: None,
         }
     }
@@ -224,12 +249,16 @@ impl SideRows {
         requires { IsSound schema.now }
         ensures { (rest : List TheLine) → self ≡ side_rows schema.now (row + 1) side rest → result ≡ side_rows schema.now row side (line.now ∷ rest) }
     {
-        let own = line.side == side;
+        if line.side != side {
+            return self;
+        }
+        let what = &line.what;
         SideRows {
-            last: first_row(own && self.last.is_none(), row, self.last),
-            ended: own && is_end(&line.what) || self.ended,
-            farewell: first_row(own && is_farewell(&line.what), row, self.farewell),
-            leave: first_row(own && empties_outbox(schema, &line.what), row, self.leave),
+            last: first_row(self.last.is_none(), row, self.last),
+            ended: is_end(what) || self.ended,
+            farewell: first_row(is_farewell(what), row, self.farewell),
+            closing: first_row(ends_channel(what), row, self.closing),
+            leave: leave_row(schema, what, row, self.leave),
         }
     }
 }

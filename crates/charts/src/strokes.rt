@@ -40,8 +40,18 @@ pub fn lane(side: Side) -> u32
     ensures { result ≡ stroke.lane side }
 {
     match side {
-        Side::Parent => 560,
-        Side::Child => 840,
+        Side::Parent => 600,
+        Side::Child => 800,
+    }
+}
+
+/// Returns where arrows begin and end at a side.
+fn edge(side: Side) -> u32
+    ensures { result ≡ stroke.edge side }
+{
+    match side {
+        Side::Parent => 607,
+        Side::Child => 793,
     }
 }
 
@@ -165,11 +175,11 @@ pub fn push_arrow(
     out.extend_from_slice(arrow_style(arrow))?;
     out.extend_from_slice(arrow_end(to.is_some()))?;
     let start = Point {
-        x: lane(side),
+        x: edge(side),
         y: height(from),
     };
     let end = Point {
-        x: lane(side.other()),
+        x: edge(side.other()),
         y: height(to.unwrap_or(bottom)),
     };
     push_ends(out, start, end)

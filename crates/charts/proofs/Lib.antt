@@ -1,0 +1,14 @@
+mod Contents
+mod Cuts
+mod Drawn
+mod Joined
+mod Joins
+mod Known
+mod Pieces
+mod RowLemmas
+mod RowLines
+mod Slices
+mod Tallied
+mod Tests
+mod WellFormed
+mod WorkedDocuments

@@ -1,0 +1,14 @@
+use Rattle.std.proofs.Common.{◌≡◌, ◌+◌, ℕ, length}
+use Rattle.std.specs.Prelude.{option_map}
+use Rattle.charts.specs.Labels.{kept_length}
+use Rattle.charts.proofs.labels.kept_length.Given as goal
+
+-- what is kept of the whole is what is kept of the rest, after the bytes so far
+abbrev pub invariant-loop-byte : goal.invariant-loop-byte
+invariant-loop-byte l = record {
+  all : l.kept + length l.rest ≡ length l.text;
+  keeps : kept_length l.text ≡ option_map (λ (n : ℕ). l.kept + n) (kept_length l.rest);
+}
+
+abbrev pub decreases-loop-byte : goal.decreases-loop-byte
+decreases-loop-byte l = length l.rest
