@@ -10,9 +10,9 @@ use std::test::Fail;
 
 /// Returns the side of the page of a label of the first row.
 fn side_of(style: &str) -> &'static str {
-    if style.starts_with("text-anchor=\"end\"") && style.ends_with(" x=\"500\" y=\"74\"") {
+    if style.starts_with("text-anchor=\"end\"") && style.ends_with(" x=\"545\" y=\"74\"") {
         "left"
-    } else if style.starts_with("text-anchor=\"start\"") && style.ends_with(" x=\"900\" y=\"74\"") {
+    } else if style.starts_with("text-anchor=\"start\"") && style.ends_with(" x=\"855\" y=\"74\"") {
         "right"
     } else {
         "elsewhere"

@@ -9,16 +9,16 @@ parent deliver request -1
 parent take -1 at 2147483647 PQ.Tell(1)
 parent return -1
 ----
-request M840 70L560 90 head
-item M570 90L570 110
-dispatch 555 110 20
+request M793 70L607 90 head
+item M618 90L618 110
+dispatch 595 110 20
 ====
 never-delivered PQ.ipdl
 parent send 1 to 2147483647 PQ.Get()
 parent close
 ----
-request M560 70L840 110
-farewell M560 90L840 110
+request M607 70L793 110
+farewell M607 90L793 110
 ====
 promise PQ.ipdl
 parent send 1 to 2147483647 PQ.Get()
@@ -30,18 +30,18 @@ child return 1
 parent take reply 1
   settle 1 resolved (5)
 ----
-request M560 70L840 90 head
-item M830 90L830 110
-dispatch 835 110 60
-reply M840 130L560 150 head
-item M570 150L570 190
+request M607 70L793 90 head
+item M782 90L782 110
+dispatch 795 110 60
+reply M793 130L607 150 head
+item M618 150L618 190
 ====
 rejected PQ.ipdl
 child reject 1
 parent deliver reply 1
 ----
-reply M840 70L560 90 head
-item M570 90L570 110
+reply M793 70L607 90 head
+item M618 90L618 110
 ====
 both-call-at-once PW.ipdl
 parent call 1/1 to 2147483647 PW.CallC()
@@ -59,18 +59,18 @@ parent return -1
 child deliver reply -1
 child resume -1 ok (10)
 ----
-wait 555 70 160
-request M560 70L840 130 head
-wait 835 90 240
-request M840 90L560 110 head
-item M570 110L570 250
-item M830 130L830 150
-dispatch 840 150 20
-reply M840 190L560 210 head
-item M574 210L574 230
-dispatch 555 250 20
-reply M560 290L840 310 head
-item M826 310L826 330
+wait 595 70 160
+request M607 70L793 130 head
+wait 795 90 240
+request M793 90L607 110 head
+item M618 110L618 250
+item M782 130L782 150
+dispatch 800 150 20
+reply M793 190L607 210 head
+item M622 210L622 230
+dispatch 595 250 20
+reply M607 290L793 310 head
+item M778 310L778 330
 ====
 death-in-a-handler PW.ipdl
 parent call 1/1 to 2147483647 PW.CallC()
@@ -83,13 +83,13 @@ parent resume 1 fault ChannelClosed
 parent shut AbnormalShutdown
   fall 2147483647 AbnormalShutdown
 ----
-wait 555 70 120
-request M560 70L840 90 head
-item M830 90L830 110
-dispatch 835 110 20
-farewell M840 130L560 150 head
-fall M554 224L566 236
-fall M554 236L566 224
+wait 595 70 120
+request M607 70L793 90 head
+item M782 90L782 110
+dispatch 795 110 20
+farewell M793 130L607 150 head
+fall M594 224L606 236
+fall M594 236L606 224
 ====
 close PQ.ipdl
 parent close
@@ -98,11 +98,11 @@ child deliver goodbye
 child shut NormalShutdown
   fall 2147483647 NormalShutdown
 ----
-farewell M560 70L840 110 head
-fall M554 84L566 96
-fall M554 96L566 84
-fall M834 144L846 156
-fall M834 156L846 144
+farewell M607 70L793 110 head
+fall M594 84L606 96
+fall M594 96L606 84
+fall M794 144L806 156
+fall M794 156L806 144
 ====
 lazy-sends PLz.ipdl
 child send -1 to 2147483647 PLz.Lz(1)
@@ -115,21 +115,90 @@ child flush 1
 parent return -1
 parent deliver request -2
 ----
-outbox M834 70L834 110
-request M840 110L560 130 head
-outbox M834 90L834 110
-request M840 110L560 230 head
-request M840 110L560 250
-item M570 130L570 170
-outbox M834 150L834 190
-request M840 190L560 250
-dispatch 555 170 40
-item M574 230L574 250
+outbox M789 70L789 110
+request M793 110L607 130 head
+outbox M789 90L789 110
+request M793 110L607 230 head
+request M793 110L607 250
+item M618 130L618 170
+outbox M789 150L789 190
+request M793 190L607 250
+dispatch 595 170 40
+item M622 230L622 250
 ====
 lazy-send-that-stays PLz.ipdl
 child send -1 to 2147483647 PLz.Lz(1)
 ----
-outbox M834 70L834 90
+outbox M789 70L789 90
+====
+close-and-then-death PQ.ipdl
+parent close
+parent die
+child deliver goodbye
+----
+farewell M607 70L793 110 head
+====
+death-after-a-goodbye PQ.ipdl
+child close
+parent deliver goodbye
+parent die
+----
+farewell M793 70L607 90 head
+====
+close-after-a-death PQ.ipdl
+parent die
+child deliver broken
+child close
+----
+farewell M607 70L793 90 head
+====
+farewells-that-cross PQ.ipdl
+parent close
+child die
+parent deliver broken
+child deliver goodbye
+----
+farewell M607 70L793 130 head
+farewell M793 90L607 110 head
+====
+lazy-send-that-a-goodbye-drops PLz.ipdl
+child send -1 to 2147483647 PLz.Lz(1)
+parent close
+child deliver goodbye
+child die
+----
+outbox M789 70L789 130
+farewell M607 90L793 110 head
+====
+lazy-send-that-a-death-drops PLz.ipdl
+child send -1 to 2147483647 PLz.Lz(1)
+parent die
+child deliver broken
+child flush 1
+----
+outbox M789 70L789 150
+farewell M607 90L793 110 head
+====
+lazy-send-before-a-close PLz.ipdl
+child send -1 to 2147483647 PLz.Lz(1)
+child close
+parent deliver request -1
+parent deliver goodbye
+----
+outbox M789 70L789 90
+request M793 90L607 110 head
+farewell M793 90L607 130 head
+item M618 110L618 150
+====
+lazy-send-and-a-death-at-the-other-side PLz.ipdl
+child send -1 to 2147483647 PLz.Lz(1)
+parent deliver broken
+child flush 1
+parent deliver request -1
+----
+outbox M789 70L789 110
+request M793 110L607 130 head
+item M618 130L618 150
 ====
 replaced PC.ipdl
 child send -1 to 2147483647 PC.Up(1)
@@ -138,18 +207,18 @@ parent deliver request -1
 parent deliver request -2
   replaced -1
 ----
-request M840 70L560 110 head
-request M840 90L560 130 head
-item M570 110L570 150
-item M574 130L574 170
+request M793 70L607 110 head
+request M793 90L607 130 head
+item M618 110L618 150
+item M622 130L622 170
 ====
 dropped POwn.ipdl
 parent send 1 to 4 PTmp.Hi()
 child deliver request 1
 child drop 1 at 4 PTmp.Hi for 4
 ----
-request M560 70L840 90 head
-item M830 90L830 110
+request M607 70L793 90 head
+item M782 90L782 110
 ====
 nine-items-that-nobody-sent PQ.ipdl
 parent deliver request -1
@@ -162,15 +231,15 @@ parent deliver request -7
 parent deliver request -8
 parent deliver request -9
 ----
-item M570 70L570 250
-item M574 90L574 250
-item M578 110L578 250
-item M582 130L582 250
-item M586 150L586 250
-item M590 170L590 250
-item M594 190L594 250
-item M598 210L598 250
-item M570 230L570 250
+item M618 70L618 250
+item M622 90L622 250
+item M626 110L626 250
+item M630 130L630 250
+item M634 150L634 250
+item M638 170L638 250
+item M642 190L642 250
+item M646 210L646 250
+item M618 230L618 250
 ====
 eleven-handlers PQ.ipdl
 parent take -1 at 2147483647 PQ.Tell(1)
@@ -185,18 +254,18 @@ parent take -9 at 2147483647 PQ.Tell(1)
 parent take -10 at 2147483647 PQ.Tell(1)
 parent take -11 at 2147483647 PQ.Tell(1)
 ----
-dispatch 555 70 220
-dispatch 550 90 200
-dispatch 545 110 180
-dispatch 540 130 160
-dispatch 535 150 140
-dispatch 530 170 120
-dispatch 525 190 100
-dispatch 520 210 80
-dispatch 515 230 60
-dispatch 510 250 40
-dispatch 510 270 20
+dispatch 595 70 220
+dispatch 590 90 200
+dispatch 585 110 180
+dispatch 580 130 160
+dispatch 575 150 140
+dispatch 570 170 120
+dispatch 565 190 100
+dispatch 560 210 80
+dispatch 555 230 60
+dispatch 550 250 40
+dispatch 550 270 20
 ";
 
 /// The number of rows.
-pub const MARKS_COUNT: &str = "13";
+pub const MARKS_COUNT: &str = "21";
