@@ -14,9 +14,9 @@ use Rattle.ipdl_base.specs.declared.schema.Schema.{Schema}
 use Rattle.charts.specs.Chart.{anchor, cap, is_trouble, label, label_place, life_style, lifeline, tone}
 use Rattle.charts.specs.Documents.{AreAttributes, Attribute, IsContent, nothing, are_distinct, attributes_text, is_attribute, is_value_byte}
 use Rattle.charts.specs.Labels.{cut, row_words}
-use Rattle.charts.specs.Marks.{arrow_at, bar_at, bar_place, bottom_at, cross, dispatch_style, down, fall_style, item_at, item_place, item_style, marks, outbox_place, outbox_style, send_at, size, wait_style}
+use Rattle.charts.specs.Marks.{arrow_at, bar_at, bar_place, bottom_at, cross, dispatch_style, down, fall_style, is_closing, item_at, item_place, item_style, marks, outbox_place, outbox_style, send_at, size, wait_style}
 use Rattle.charts.specs.Rows.{HistoryRows, bottom, rows_of}
-use Rattle.charts.specs.Strokes.{arrow_end, arrow_style, arrow_text, bar, height, lane, stroke, words}
+use Rattle.charts.specs.Strokes.{arrow_end, arrow_style, arrow_text, bar, edge, height, lane, stroke, words}
 use Rattle.charts.specs.declared.marks.Place.{Place}
 use Rattle.charts.specs.declared.rows.SideRows.{SideRows}
 use Rattle.charts.specs.declared.strokes.Arrow.{Arrow}
@@ -131,7 +131,7 @@ item_is = record { attributes = at (codes "class") (codes "item") ∷ at (codes 
 
 outbox_is : IsStyle points outbox_style
 outbox_is = record {
-  attributes = at (codes "class") (codes "outbox") ∷ at (codes "stroke") (codes "#0072b2") ∷ at (codes "stroke-width") (codes "2") ∷ at (codes "stroke-dasharray") (codes "1 3") ∷ [];
+  attributes = at (codes "class") (codes "outbox") ∷ at (codes "stroke") (codes "#0072b2") ∷ at (codes "stroke-width") (codes "2") ∷ at (codes "stroke-dasharray") (codes "2 3") ∷ [];
   is = refl;
   each = refl;
   distinct = λ d. refl;
@@ -176,7 +176,7 @@ arrow_is Farewell false = record { attributes = arrow_attributes Farewell ++ end
 -- Marks
 
 arrow_content : (kind : Arrow) (end : Side) (from : ℕ) (to : Option ℕ) (last : ℕ) → IsContent (arrow_text kind end from to last)
-arrow_content kind end from to last = stroke_content _ (arrow_is kind (is_some to)) (lane end) (height from) (lane (other end)) (height (unwrap_or to last))
+arrow_content kind end from to last = stroke_content _ (arrow_is kind (is_some to)) (edge end) (height from) (edge (other end)) (height (unwrap_or to last))
 
 module _ (rows : HistoryRows) (place : Place) where
   arrow_at_content : (kind : Arrow) (to : Option ℕ) → IsContent (arrow_at kind place to)
@@ -196,6 +196,10 @@ module _ (rows : HistoryRows) (place : Place) where
   send_content n (Some None) = down_content outbox_style outbox_is (outbox_place place.side) (bottom_at rows place)
   send_content n (Some (Some left)) = beside (down_content outbox_style outbox_is (outbox_place place.side) left) (arrow_content Async place.side left (rows.arrivals n) place.count)
 
+  farewell_content : (closing : Bool) → IsContent (cond closing (arrow_at Farewell place (rows_of rows (other place.side)).farewell) [])
+  farewell_content true = arrow_at_content Farewell (rows_of rows (other place.side)).farewell
+  farewell_content false = nothing
+
   cross_content : IsContent (cross place)
   cross_content =
       beside (stroke_content fall_style fall_is (lane place.side - 6) (64 + 20 * place.row) (lane place.side + 6) (76 + 20 * place.row))
@@ -212,8 +216,8 @@ module _ (rows : HistoryRows) (place : Place) where
   marks_content (what.DeliverRequest n) = item_content (rows.departures n)
   marks_content (what.DeliverReply n) = item_content (rows.reply_departures n)
   marks_content (what.Take n route message values) = bar_at_content dispatch_style dispatch_is (rows.returns n)
-  marks_content what.Close = arrow_at_content Farewell (rows_of rows (other place.side)).farewell
-  marks_content what.Die = arrow_at_content Farewell (rows_of rows (other place.side)).farewell
+  marks_content what.Close = farewell_content (is_closing rows place)
+  marks_content what.Die = farewell_content (is_closing rows place)
   marks_content (what.Fall id destroy) = cross_content
   marks_content _ = nothing
 

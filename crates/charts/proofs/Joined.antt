@@ -1,5 +1,5 @@
 -- Where the rows are that arrows, bars and waiting items join.
-use Rattle.std.proofs.Common.{◌≡◌, ℕ, suc, ◌+◌, ◌≤◌, ℤ, Bool, true, false, cond, ◌&&◌, List, [], ◌∷◌, Option, Some, None, refl, sym, ap, subst, ◌∙◌, arith, true≢false, slice_get, int_eq, ◌-◌, ◌⊎◌, inl, inr}
+use Rattle.std.proofs.Common.{◌≡◌, ℕ, suc, ◌+◌, ◌<◌, ◌≤◌, ℤ, Bool, true, false, cond, ◌&&◌, List, [], ◌∷◌, Option, Some, None, refl, sym, ap, subst, ◌∙◌, arith, true≢false, slice_get, int_eq, ◌-◌, ◌⊎◌, inl, inr}
 use Rattle.std.specs.Bool.{Decides}
 use Rattle.std.proofs.lemmas.Bool.Decides.{Decides-int_eq}
 use Rattle.std.proofs.lemmas.Option.{same_Some}
@@ -11,8 +11,8 @@ use Rattle.ipdl_base.specs.declared.line.What.{What}
 use Rattle.ipdl_base.specs.declared.line.What.TheVariants as what
 use Rattle.ipdl_base.specs.declared.schema.Schema.{Schema}
 use Rattle.charts.specs.Firsts.{Finds, IsFirst}
-use Rattle.charts.specs.Joins.{Arrives, Departs, taken, dropped, replaced, Empties, HearsFarewell, IsLazySend, ReplyArrives, ReplyDeparts, reply_taken, resumed, failed, Returns}
-use Rattle.charts.specs.Rows.{arrival, departure, empties_outbox, handler_return, is_farewell, is_lazy, is_number, lazy_send, leave_from, reply_arrival, reply_departure, row_from, side_row_from}
+use Rattle.charts.specs.Joins.{Arrives, Departs, taken, dropped, replaced, Clears, Empties, EndsChannel, closes, dies, hears, HearsFarewell, IsLazySend, ReplyArrives, ReplyDeparts, reply_taken, resumed, failed, Returns}
+use Rattle.charts.specs.Rows.{arrival, departure, empties_outbox, ends_channel, handler_return, is_farewell, is_lazy, is_number, lazy_send, leave_from, outbox_row_from, reply_arrival, reply_departure, row_from, side_row_from}
 use Rattle.charts.proofs.Tests.{both_hold, first_of_both, second_of_both}
 
 -- The first row of a test
@@ -172,11 +172,6 @@ side_row_is_first : (row : ℕ) (side : Side) (test : What → Bool) (lines : Li
 side_row_is_first row side test [] = refl
 side_row_is_first row side test (line ∷ rest) = ap (cond (same_side line.side side && test line.what) (Some row)) (side_row_is_first (row + 1) side test rest)
 
-finds_empty : (schema : Schema) (side : Side) (all : List Line) (row : ℕ) (lines : List Line) → AreFrom row all lines → Finds (Empties schema side) all row (side_row_from row side (empties_outbox schema) lines)
-finds_empty schema side all row lines are =
-    subst (Finds (Empties schema side) all row) (sym (side_row_is_first row side (empties_outbox schema) lines))
-    (finds_first (Empties schema side) (λ line. same_side line.side side && empties_outbox schema line.what) (tells_empty schema side) all row lines are)
-
 -- the farewell of the other end
 told_farewell : (w : What) → is_farewell w ≡ true → (w ≡ what.DeliverGoodbye) ⊎ (w ≡ what.DeliverBroken)
 told_farewell what.DeliverGoodbye e = inl refl
@@ -199,6 +194,73 @@ finds_farewell side lines =
     subst (Finds (HearsFarewell side) lines 0) (sym (side_row_is_first 0 side is_farewell lines))
     (finds_first (HearsFarewell side) (λ line. same_side line.side side && is_farewell line.what) (tells_farewell side) lines 0 lines (are_all lines))
 
+-- the end of the channel at a side
+told_end : (side : Side) (line : Line) (w : What) → line.side ≡ side → line.what ≡ w → ends_channel w ≡ true → EndsChannel side line
+told_end side line what.Close of_side is e = closes of_side is
+told_end side line what.Die of_side is e = dies of_side is
+told_end side line what.DeliverGoodbye of_side is e = hears (record { of_side = of_side; farewell = inl is })
+told_end side line what.DeliverBroken of_side is e = hears (record { of_side = of_side; farewell = inr is })
+told_end side line _ of_side is e = absurd (true≢false (sym e))
+
+farewell_ends : (w : What) → (w ≡ what.DeliverGoodbye) ⊎ (w ≡ what.DeliverBroken) → ends_channel w ≡ true
+farewell_ends w (inl e) = ap ends_channel e
+farewell_ends w (inr e) = ap ends_channel e
+
+ended : (side : Side) (line : Line) → EndsChannel side line → same_side line.side side && ends_channel line.what ≡ true
+ended side line (closes of_side is) = both_hold _ _ (ap (λ (s : Side). same_side s side) of_side ∙ side_is side) (ap ends_channel is)
+ended side line (dies of_side is) = both_hold _ _ (ap (λ (s : Side). same_side s side) of_side ∙ side_is side) (ap ends_channel is)
+ended side line (hears h) = both_hold _ _ (ap (λ (s : Side). same_side s side) h.of_side ∙ side_is side) (farewell_ends line.what h.farewell)
+
+tells_end : (side : Side) (line : Line) → Decides (same_side line.side side && ends_channel line.what) (EndsChannel side line)
+tells_end side line = (λ e. told_end side line line.what (side_told line.side side (first_of_both _ _ e)) refl (second_of_both (same_side line.side side) _ e), ended side line)
+
+-- what is found of the end of the channel
+pub finds_end : (side : Side) (lines : List Line) → Finds (EndsChannel side) lines 0 (side_row_from 0 side ends_channel lines)
+finds_end side lines =
+    subst (Finds (EndsChannel side) lines 0) (sym (side_row_is_first 0 side ends_channel lines))
+    (finds_first (EndsChannel side) (λ line. same_side line.side side && ends_channel line.what) (tells_end side) lines 0 lines (are_all lines))
+
+-- there is one first row
+pub one_first : {Holds : Line → Type 0} {lines : List Line} {from row at : ℕ} → IsFirst Holds lines from row → IsFirst Holds lines from at → row ≡ at
+one_first {row = row} {at = at} f g = by (split row at)
+  where
+    split : (a b : ℕ) → (a ≡ b) ⊎ ((a < b) ⊎ (b < a))
+    split a b = grind arith
+
+    by : (row ≡ at) ⊎ ((row < at) ⊎ (at < row)) → row ≡ at
+    by (inl e) = e
+    by (inr (inl l)) = absurd (g.first row f.line f.after l f.found f.holds)
+    by (inr (inr l)) = absurd (f.first at g.line g.after l g.found g.holds)
+
+-- Where what waits in the outbox of a side leaves, from a row on.
+pub data Waits (schema : Schema) (side : Side) (all : List Line) (row : ℕ) : Option ℕ → Type 0 where
+  leaves : (at : ℕ) (clear : IsFirst (Clears schema side) all row at) → Empties schema side clear.line → Waits schema side all row (Some at)
+  drops : (at : ℕ) (clear : IsFirst (Clears schema side) all row at) → HearsFarewell side clear.line → Waits schema side all row None
+  stays : Finds (Clears schema side) all row None → Waits schema side all row None
+
+waits_before : (schema : Schema) (side : Side) (all : List Line) (row : ℕ) (line : Line) → slice_get all row ≡ Some line → ¬ Clears schema side line → (found : Option ℕ) → Waits schema side all (row + 1) found
+    → Waits schema side all row found
+unfolding finds_before
+waits_before schema side all row line is not_here _ (leaves at clear e) = leaves at (finds_before (Clears schema side) all row line is not_here (Some at) clear) e
+waits_before schema side all row line is not_here _ (drops at clear h) = drops at (finds_before (Clears schema side) all row line is not_here (Some at) clear) h
+waits_before schema side all row line is not_here _ (stays none) = stays (finds_before (Clears schema side) all row line is not_here None none)
+
+finds_outbox : (schema : Schema) (side : Side) (all : List Line) (row : ℕ) (lines : List Line) → AreFrom row all lines → Waits schema side all row (outbox_row_from row schema side lines)
+unfolding finds_here
+finds_outbox schema side all row [] are = stays (finds_none (Clears schema side) all row are)
+finds_outbox schema side all row (line ∷ rest) are =
+    by (same_side line.side side && is_farewell line.what) (same_side line.side side && empties_outbox schema line.what) refl refl (finds_outbox schema side all (row + 1) rest (are_next row all line rest are))
+  where
+    neither : (same_side line.side side && is_farewell line.what) ≡ false → (same_side line.side side && empties_outbox schema line.what) ≡ false → ¬ Clears schema side line
+    neither e f (inl h) = true≢false (sym ((tells_empty schema side line).1 h) ∙ f)
+    neither e f (inr h) = true≢false (sym ((tells_farewell side line).1 h) ∙ e)
+
+    by : (farewell empties : Bool) → (same_side line.side side && is_farewell line.what) ≡ farewell → (same_side line.side side && empties_outbox schema line.what) ≡ empties
+        → Waits schema side all (row + 1) (outbox_row_from (row + 1) schema side rest) → Waits schema side all row (cond farewell None (cond empties (Some row) (outbox_row_from (row + 1) schema side rest)))
+    by true empties e f later = let h : HearsFarewell side line = (tells_farewell side line).0 e in drops row (finds_here (Clears schema side) all row line (first_of row all line rest are) (inr h)) h
+    by false true e f later = let h : Empties schema side line = (tells_empty schema side line).0 f in leaves row (finds_here (Clears schema side) all row line (first_of row all line rest are) (inl h)) h
+    by false false e f later = waits_before schema side all row line (first_of row all line rest are) (neither e f) (outbox_row_from (row + 1) schema side rest) later
+
 -- a lazy send
 told_lazy : (schema : Schema) (n : ℤ) (line : Line) (w : What) → line.what ≡ w → is_number n (lazy_send schema w) ≡ true → IsLazySend schema n line
 told_lazy schema n line (what.Send m route message values) is e = by (is_lazy schema message) refl e
@@ -214,11 +276,11 @@ tells_lazy schema n line = (
   λ h. ap (λ (w : What). is_number n (lazy_send schema w)) h.sent ∙ ap (λ (b : Bool). is_number n (cond b (Some n) None)) h.lazy ∙ number_is n,
 )
 
--- Where a lazy send leaves: it is the first of its number, from a row on, and leaves where the outbox of its side empties next.
+-- Where a lazy send leaves: it is the first of its number, from a row on, and leaves where what waits in the outbox of its side leaves.
 pub record Leaves (schema : Schema) (n : ℤ) (all : List Line) (row : ℕ) (left : Option ℕ) : Type 0 where
   pub sent : ℕ
   pub send : IsFirst (IsLazySend schema n) all row sent
-  pub empties : Finds (Empties schema send.line.side) all (sent + 1) left
+  pub waits : Waits schema send.line.side all (sent + 1) left
 
 -- so of what is found of a lazy send, if one is found
 abbrev pub FindsLeave : Schema → ℤ → List Line → ℕ → Option (Option ℕ) → Type 0
@@ -230,7 +292,7 @@ leaves_before : (schema : Schema) (n : ℤ) (all : List Line) (row : ℕ) (line 
 unfolding finds_before
 leaves_before schema n all row line is not_here None later = finds_before (IsLazySend schema n) all row line is not_here None later
 leaves_before schema n all row line is not_here (Some left) later =
-    record { sent = later.sent; send = finds_before (IsLazySend schema n) all row line is not_here (Some later.sent) later.send; empties = later.empties }
+    record { sent = later.sent; send = finds_before (IsLazySend schema n) all row line is not_here (Some later.sent) later.send; waits = later.waits }
 
 leave_from_row : (schema : Schema) (n : ℤ) (all : List Line) (row : ℕ) (lines : List Line) → AreFrom row all lines → FindsLeave schema n all row (leave_from row schema lines n)
 unfolding finds_here
@@ -239,11 +301,11 @@ leave_from_row schema n all row (line ∷ rest) are =
     by (is_number n (lazy_send schema line.what)) refl (leave_from_row schema n all (row + 1) rest (are_next row all line rest are))
   where
     by : (holds : Bool) → is_number n (lazy_send schema line.what) ≡ holds → FindsLeave schema n all (row + 1) (leave_from (row + 1) schema rest n)
-        → FindsLeave schema n all row (cond holds (Some (side_row_from (row + 1) line.side (empties_outbox schema) rest)) (leave_from (row + 1) schema rest n))
+        → FindsLeave schema n all row (cond holds (Some (outbox_row_from (row + 1) schema line.side rest)) (leave_from (row + 1) schema rest n))
     by true e later = record {
       sent = row;
       send = finds_here (IsLazySend schema n) all row line (first_of row all line rest are) ((tells_lazy schema n line).0 e);
-      empties = finds_empty schema line.side all (row + 1) rest (are_next row all line rest are);
+      waits = finds_outbox schema line.side all (row + 1) rest (are_next row all line rest are);
     }
     by false e later = leaves_before schema n all row line (first_of row all line rest are) (λ h. true≢false (sym ((tells_lazy schema n line).1 h) ∙ e)) (leave_from (row + 1) schema rest n) later
 

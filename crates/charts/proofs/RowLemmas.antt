@@ -1,7 +1,5 @@
 -- What is noted of rows.
-use Rattle.std.proofs.Common.{◌≡◌, ◌∙◌, refl, ℕ, ℤ, ◌+◌, Bool, true, false, ◌||◌, if◌then◌else◌, List, ◌∷◌, Option, Some, None, is_none, is_some, sym, ap}
-use Rattle.std.specs.HashMap.{get}
-use Rattle.std.specs.Ordering.{int_eq}
+use Rattle.std.proofs.Common.{◌≡◌, ◌∙◌, refl, ℕ, ℤ, ◌+◌, true, false, ◌||◌, if◌then◌else◌, List, ◌∷◌, Option, Some, None, is_none, is_some, sym, ap}
 use Rattle.ipdl_base.specs.Lines.{same_side}
 use Rattle.ipdl_base.specs.declared.kinds.Side.{Side}
 use Rattle.ipdl_base.specs.declared.kinds.Side.TheVariants as side

@@ -63,14 +63,14 @@ ground_content =
     alone_empty (codes "rect") (at (codes "class") (codes "ground") ∷ at (codes "width") (codes "100%") ∷ at (codes "height") (codes "100%") ∷ at (codes "fill") (codes "#fff") ∷ []) refl
     (record { each = refl; distinct = refl })
 
-parent_content : IsContent (codes "<text x=\"560\" y=\"32\" text-anchor=\"middle\" font-size=\"16\">parent</text>")
+parent_content : IsContent (codes "<text x=\"600\" y=\"32\" text-anchor=\"middle\" font-size=\"16\">parent</text>")
 parent_content =
-    alone_around (codes "text") (at (codes "x") (codes "560") ∷ at (codes "y") (codes "32") ∷ at (codes "text-anchor") (codes "middle") ∷ at (codes "font-size") (codes "16") ∷ []) (codes "parent") refl
+    alone_around (codes "text") (at (codes "x") (codes "600") ∷ at (codes "y") (codes "32") ∷ at (codes "text-anchor") (codes "middle") ∷ at (codes "font-size") (codes "16") ∷ []) (codes "parent") refl
     (record { each = refl; distinct = refl }) (characters _ refl)
 
-child_content : IsContent (codes "<text x=\"840\" y=\"32\" text-anchor=\"middle\" font-size=\"16\">child</text>")
+child_content : IsContent (codes "<text x=\"800\" y=\"32\" text-anchor=\"middle\" font-size=\"16\">child</text>")
 child_content =
-    alone_around (codes "text") (at (codes "x") (codes "840") ∷ at (codes "y") (codes "32") ∷ at (codes "text-anchor") (codes "middle") ∷ at (codes "font-size") (codes "16") ∷ []) (codes "child") refl
+    alone_around (codes "text") (at (codes "x") (codes "800") ∷ at (codes "y") (codes "32") ∷ at (codes "text-anchor") (codes "middle") ∷ at (codes "font-size") (codes "16") ∷ []) (codes "child") refl
     (record { each = refl; distinct = refl }) (characters _ refl)
 
 line_feed : IsContent (codes "\n")
@@ -88,8 +88,8 @@ constant =
     ++ codes "\n")
     ++ (codes "<style>" ++ colors ++ codes "</style>" ++ codes "\n") ++ (codes "<defs>" ++ marker ++ codes "</defs>" ++ codes "\n")
     ++ (codes "<rect class=\"ground\" width=\"100%\" height=\"100%\" fill=\"#fff\"/>" ++ codes "\n")
-    ++ (codes "<text x=\"560\" y=\"32\" text-anchor=\"middle\" font-size=\"16\">parent</text>" ++ codes "\n")
-    ++ (codes "<text x=\"840\" y=\"32\" text-anchor=\"middle\" font-size=\"16\">child</text>" ++ codes "\n")
+    ++ (codes "<text x=\"600\" y=\"32\" text-anchor=\"middle\" font-size=\"16\">parent</text>" ++ codes "\n")
+    ++ (codes "<text x=\"800\" y=\"32\" text-anchor=\"middle\" font-size=\"16\">child</text>" ++ codes "\n")
 
 constant_content : IsContent constant
 unfolding constant
@@ -102,10 +102,10 @@ constant_content =
 abbrev svg_attributes : List ℕ → List Attribute
 svg_attributes high =
     at (codes "xmlns") (codes "http://www.w3.org/2000/svg") ∷ at (codes "viewBox") (codes "0 0 1400 " ++ high) ∷ at (codes "role") (codes "img") ∷ at (codes "aria-labelledby") (codes "name about")
-    ∷ at (codes "font-family") (codes "ui-monospace, Menlo, Consolas, 'DejaVu Sans Mono', monospace") ∷ at (codes "font-size") (codes "12") ∷ []
+    ∷ at (codes "font-family") (codes "ui-monospace, Menlo, Consolas, 'DejaVu Sans Mono', monospace") ∷ at (codes "font-size") (codes "13") ∷ []
 
 abbrev opening : List ℕ
-opening = codes "\" role=\"img\" aria-labelledby=\"name about\" font-family=\"ui-monospace, Menlo, Consolas, 'DejaVu Sans Mono', monospace\" font-size=\"12\">"
+opening = codes "\" role=\"img\" aria-labelledby=\"name about\" font-family=\"ui-monospace, Menlo, Consolas, 'DejaVu Sans Mono', monospace\" font-size=\"13\">"
 
 head_end_parts : head_end ≡ opening ++ constant
 unfolding constant head_end
@@ -117,7 +117,7 @@ regrouped start high quote more close = simp append_assoc
 opens : (high : List ℕ) → codes "<" ++ codes "svg" ++ attributes_text (svg_attributes high) ++ codes ">" ≡ head_start ++ high ++ opening
 unfolding head_start
 opens high =
-    regrouped head_start high (codes "\"") (codes " role=\"img\" aria-labelledby=\"name about\" font-family=\"ui-monospace, Menlo, Consolas, 'DejaVu Sans Mono', monospace\" font-size=\"12\"") (codes ">")
+    regrouped head_start high (codes "\"") (codes " role=\"img\" aria-labelledby=\"name about\" font-family=\"ui-monospace, Menlo, Consolas, 'DejaVu Sans Mono', monospace\" font-size=\"13\"") (codes ">")
 
 svg_are : (n : ℕ) → AreAttributes (svg_attributes (decimal n))
 svg_are n = record { each = both_hold _ true (decimal_value n) refl; distinct = refl }

@@ -1,5 +1,5 @@
 -- At which lines the arrows, bars and waiting items of a picture end.
-use Rattle.std.specs.Prelude.{◌≡◌, ◌⊎◌, ℕ, ◌+◌, ℤ, true, List, ◌++◌, Option, None}
+use Rattle.std.specs.Prelude.{◌≡◌, ◌⊎◌, ℕ, ◌+◌, ℤ, true, List, [], ◌++◌, Option, None}
 use Rattle.ipdl_base.specs.Sides.{other}
 use Rattle.ipdl_base.specs.declared.kinds.Side.{Side}
 use Rattle.ipdl_base.specs.declared.line.Line.{Line}
@@ -53,21 +53,34 @@ pub record HearsFarewell (side : Side) (line : Line) : Type 0 where
   pub of_side : line.side ≡ side
   pub farewell : (line.what ≡ what.DeliverGoodbye) ⊎ (line.what ≡ what.DeliverBroken)
 
+-- the channel ends for a side: the side closes or dies, or the farewell of the other end arrives
+pub data EndsChannel (side : Side) (line : Line) : Type 0 where
+  closes : line.side ≡ side → line.what ≡ what.Close → EndsChannel side line
+  dies : line.side ≡ side → line.what ≡ what.Die → EndsChannel side line
+  hears : HearsFarewell side line → EndsChannel side line
+
 -- the outbox of a side empties
 pub record Empties (schema : Schema) (side : Side) (line : Line) : Type 0 where
   pub of_side : line.side ≡ side
   pub empties : empties_outbox schema line.what ≡ true
 
+-- nothing waits in the outbox of a side any longer: it empties, or the farewell of the other end drops it
+abbrev pub Clears : Schema → Side → Line → Type 0
+Clears schema side line = Empties schema side line ⊎ HearsFarewell side line
+
 -- Marks
 
 -- How an async send is drawn: by an arrow from its row to that of its delivery; or, if it waits in the outbox, by a line down to the
--- first row after it at which the outbox of its side empties, and from there by the arrow; or, if the outbox does not empty, by a
--- line down to the bottom.
+-- first row after it at which the outbox of its side empties, and from there by the arrow; or, if the farewell of the other end
+-- drops the outbox before it empties, or if neither happens, by a line down to the bottom.
 pub data DrawsSend (schema : Schema) (lines : List Line) (place : Place) (n : ℤ) (text : List ℕ) : Type 0 where
   at_once : (to : Option ℕ) → Finds (IsLazySend schema n) lines 0 None → Finds (Arrives n) lines 0 to → text ≡ arrow_at Async place to → DrawsSend schema lines place n text
-  later : (sent left : ℕ) (to : Option ℕ) (send : IsFirst (IsLazySend schema n) lines 0 sent) → IsFirst (Empties schema send.line.side) lines (sent + 1) left → Finds (Arrives n) lines 0 to
+  later : (sent left : ℕ) (to : Option ℕ) (send : IsFirst (IsLazySend schema n) lines 0 sent) (clear : IsFirst (Clears schema send.line.side) lines (sent + 1) left)
+      → Empties schema send.line.side clear.line → Finds (Arrives n) lines 0 to
       → text ≡ down outbox_style place (outbox_place place.side) left ++ arrow_text Async place.side left to place.count → DrawsSend schema lines place n text
-  never : (sent : ℕ) (send : IsFirst (IsLazySend schema n) lines 0 sent) → Finds (Empties schema send.line.side) lines (sent + 1) None
+  lost : (sent drop : ℕ) (send : IsFirst (IsLazySend schema n) lines 0 sent) (clear : IsFirst (Clears schema send.line.side) lines (sent + 1) drop) → HearsFarewell send.line.side clear.line
+      → text ≡ down outbox_style place (outbox_place place.side) (bottom_at (rows_from schema 0 lines) place) → DrawsSend schema lines place n text
+  never : (sent : ℕ) (send : IsFirst (IsLazySend schema n) lines 0 sent) → Finds (Clears schema send.line.side) lines (sent + 1) None
       → text ≡ down outbox_style place (outbox_place place.side) (bottom_at (rows_from schema 0 lines) place) → DrawsSend schema lines place n text
 
 -- a call is drawn by the bar of its wait, down to where it continues, and by an arrow to the row of its delivery
@@ -84,11 +97,11 @@ pub record DrawsReply (lines : List Line) (place : Place) (n : ℤ) (text : List
   pub arrives : Finds (ReplyArrives n) lines 0 to
   pub drawn : text ≡ arrow_at Reply place to
 
--- the end of a side is drawn by an arrow to the row at which the other side hears of it
-pub record DrawsFarewell (lines : List Line) (place : Place) (text : List ℕ) : Type 0 where
-  pub to : Option ℕ
-  pub hears : Finds (HearsFarewell (other place.side)) lines 0 to
-  pub drawn : text ≡ arrow_at Farewell place to
+-- How the goodbye or the death of a side is drawn: at the first row at which the channel ends for the side, by an arrow to the row
+-- at which the farewell arrives at the other side; at any other row, by nothing.
+pub data DrawsFarewell (lines : List Line) (place : Place) (text : List ℕ) : Type 0 where
+  said : (to : Option ℕ) → IsFirst (EndsChannel place.side) lines 0 place.row → Finds (HearsFarewell (other place.side)) lines 0 to → text ≡ arrow_at Farewell place to → DrawsFarewell lines place text
+  unsaid : ¬ IsFirst (EndsChannel place.side) lines 0 place.row → text ≡ [] → DrawsFarewell lines place text
 
 -- a handler is drawn by a bar, down to where it returns
 pub record DrawsHandler (schema : Schema) (lines : List Line) (place : Place) (n : ℤ) (text : List ℕ) : Type 0 where
@@ -103,7 +116,7 @@ pub record DrawsItem (Ends : Line → Type 0) (schema : Schema) (lines : List Li
   pub drawn : text ≡ item_at (rows_from schema 0 lines) place to
 
 -- What is drawn of a line with a number, at any place, joins the lines of the history that have the same number, and what is drawn of
--- the end of a side joins the farewell.
+-- the first end of the channel at a side joins the farewell.
 pub record JoinsPackets (schema : Schema) (lines : List Line) (place : Place) (n : ℤ) : Type 0 where
   pub send : (route : ℤ) (message : ℕ) (values : Values) → DrawsSend schema lines place n (marks (rows_from schema 0 lines) place (what.Send n route message values))
   pub call : (transaction route : ℤ) (message : ℕ) (values : Values) → DrawsCall schema lines place n (marks (rows_from schema 0 lines) place (what.Call n transaction route message values))

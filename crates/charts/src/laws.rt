@@ -20,7 +20,11 @@ pub fn rows_are_lines()
 /// request or the reply of its number, and at the bottom if no line does. The bar of a handler ends
 /// at the return of its number, the bar of a wait where the call of its number continues, and the
 /// line of a waiting item where the item of its number is taken, dropped or replaced. The arrow of a
-/// lazy send begins at the first line after it at which the outbox of its side empties.
+/// lazy send begins at the first line after it at which the outbox of its side empties, and there is
+/// none if the farewell of the other end drops the outbox before that line, or if there is no such
+/// line. A goodbye or a death has an arrow exactly where it is the first line of its side at which
+/// the channel ends; the arrow ends at the first farewell of the other side, and at the bottom if
+/// none arrives there.
 pub fn arrows_join_packets()
     ensures { ArrowsJoinPackets }
 {}

@@ -1,4 +1,4 @@
-use Rattle.std.proofs.Common.{◌≡◌, ◌∙◌, rules, ◌++◌, [], ℕ, Bool, true, false, if◌then◌else◌, List, Option, sym, ap, append-nil}
+use Rattle.std.proofs.Common.{◌≡◌, ◌∙◌, rules, [], Bool, true, if◌then◌else◌, sym, ap}
 use Rattle.ipdl_base.specs.Sides.{other}
 use Rattle.charts.specs.Marks.{arrow_at, farewell_at, is_closing}
 use Rattle.charts.specs.Noted.{noted, side_noted}
