@@ -3,9 +3,9 @@
 ghost use Rattle.charts.specs.Laws.{ArrowsJoinPackets, ChartsAreWellFormed, RowsAreLines};
 
 /// The law of documents: the picture of a history is one well-formed element named `svg` and a line
-/// feed. Each element that opens closes, in order, no element has two attributes of one name, and no
-/// byte of a name or of a value is taken for markup, whatever the schema, the lines and the ending
-/// are. The law does not say that the bytes from 128 on are UTF-8.
+/// feed, whatever the schema, the lines and the ending are: each element that opens closes, in
+/// order, no element has two attributes of one name, and outside of markup there is no `<`, no `>`
+/// and no `&` but that of an entity. The law does not say that the bytes from 128 on are UTF-8.
 pub fn charts_are_well_formed()
     ensures { ChartsAreWellFormed }
 {}
