@@ -32,6 +32,6 @@ mod made_feeds;
 #[cfg(test)]
 mod order_rows;
 #[cfg(test)]
-mod texts;
+mod printed_runs;
 #[cfg(test)]
-mod transcripts;
+mod texts;
