@@ -17,8 +17,8 @@ use Rattle.ipdl_top.proofs.EndedAnswers.{same_side}
 use Rattle.ipdl_top.proofs.Summed.{summed_plain}
 use Rattle.ipdl_top.proofs.run.text_of_history.Goals as goal
 
-pub returns-in-Transcript : goal.returns-in-Transcript
-returns-in-Transcript c =
+pub returns-in_ok-transcript-in-Transcript : goal.returns-in_ok-transcript-in-Transcript
+returns-in_ok-transcript-in-Transcript c =
     let schema = c.args.schema.now in
     let lines : List Line = c.args.world.now.state.lines in
     let line = ending_line (ending_by c.args.spent) in
@@ -26,19 +26,19 @@ returns-in-Transcript c =
     let is : Transcript ≡ c.args.rendering = cc in
     subst (λ (shown : Rendering). IfOk c.with_ending.result (λ text. text.items ≡ rendered shown schema lines (ending_by c.args.spent))) is
     (IfOk-weaker c.with_ending.result _ (λ text. text.items ≡ transcript_text schema lines ++ line)
-    (λ text printed. printed ∙ ap (λ (transcript : List ℕ). transcript ++ line) (c.in_ok-transcript.ensures ∙ ap (λ (s : Schema). transcript_text s lines) c.requires.about)) c.with_ending.ensures)
+    (λ text printed. printed ∙ ap (λ (transcript : List ℕ). transcript ++ line) (c.in_ok-transcript-in-Transcript.ensures ∙ ap (λ (s : Schema). transcript_text s lines) c.requires.about)) c.with_ending.ensures)
 
-pub returns-in-Summary : goal.returns-in-Summary
-returns-in-Summary c =
+pub returns-in_ok-summary-in-Summary : goal.returns-in_ok-summary-in-Summary
+returns-in_ok-summary-in-Summary c =
     let schema = c.args.schema.now in
     let lines : List Line = c.args.world.now.state.lines in
     let line = ending_line (ending_by c.args.spent) in
     let told = c.in-Summary.is in
     let is : Summary c.in-Summary.rounds c.in-Summary.actors ≡ c.args.rendering = cc in
-    subst (λ (shown : Rendering). IfOk c.with_ending-in_ok-summary.result (λ text. text.items ≡ rendered shown schema lines (ending_by c.args.spent))) is
-    (IfOk-weaker c.with_ending-in_ok-summary.result _ (λ text. text.items ≡ summary_text c.in-Summary.rounds c.in-Summary.actors (counts_of lines) ++ line)
-    (λ text printed. printed ∙ ap (λ (summary : List ℕ). summary ++ line) (c.in_ok-summary.ensures ∙ ap (λ (counts : Counts). summary_text c.in-Summary.rounds c.in-Summary.actors counts)
-    (c.of.ensures ∙ sym (summed_plain c.history.result.now.lines) ∙ ap (λ (plain : List Line). counts_of plain) c.history.ensures.lines))) c.with_ending-in_ok-summary.ensures)
+    subst (λ (shown : Rendering). IfOk c.with_ending-in-Summary.result (λ text. text.items ≡ rendered shown schema lines (ending_by c.args.spent))) is
+    (IfOk-weaker c.with_ending-in-Summary.result _ (λ text. text.items ≡ summary_text c.in-Summary.rounds c.in-Summary.actors (counts_of lines) ++ line)
+    (λ text printed. printed ∙ ap (λ (summary : List ℕ). summary ++ line) (c.in_ok-summary-in-Summary.ensures ∙ ap (λ (counts : Counts). summary_text c.in-Summary.rounds c.in-Summary.actors counts)
+    (c.of.ensures ∙ sym (summed_plain c.history.result.now.lines) ∙ ap (λ (plain : List Line). counts_of plain) c.history.ensures.lines))) c.with_ending-in-Summary.ensures)
 
 pub returns-in-Chart : goal.returns-in-Chart
 returns-in-Chart c =
