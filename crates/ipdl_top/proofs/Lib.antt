@@ -23,6 +23,7 @@ pub mod OneAudit
 pub mod Scripted
 pub mod Feeds
 pub mod Summed
-pub mod Charted
+mod Charted
+mod ChartsAlike
 pub mod Relays
 mod Audits

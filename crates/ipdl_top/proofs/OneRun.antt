@@ -20,7 +20,7 @@ use Rattle.ipdl_top.specs.declared.rendering.Rendering.{Rendering}
 use Rattle.ipdl_top.specs.declared.rendering.Rendering.TheVariants.{Chart, Summary, Transcript}
 use Rattle.ipdl_top.specs.Ended.{answer_of, answer_with, spent_side}
 use Rattle.ipdl_top.specs.Run.{Driving, IsMade, SaysHistory, SaysRun, rendered, run_answer, setting_by}
-use Rattle.ipdl_top.proofs.Charted.{charted_alike}
+use Rattle.ipdl_top.proofs.ChartsAlike.{charted_alike}
 use Rattle.ipdl_top.proofs.OneScript.{IsAny, script_one}
 
 -- the laws that a run rests on

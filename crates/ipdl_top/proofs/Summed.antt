@@ -16,7 +16,7 @@ folds_plain test blind n [] = refl
 folds_plain test blind n (line ∷ lines) =
     folds_plain test blind (n + cond (test (plain_line line)) 1 0) lines ∙ ap (λ (here : Bool). fold (λ a x. a + cond (test x) 1 0) (n + cond here 1 0) lines) (blind line)
 
-counts_plain : (test : Line → Bool) → ((line : Line) → test (plain_line line) ≡ test line) → (lines : List Line) → count_by test (map plain_line lines) ≡ count_by test lines
+pub counts_plain : (test : Line → Bool) → ((line : Line) → test (plain_line line) ≡ test line) → (lines : List Line) → count_by test (map plain_line lines) ≡ count_by test lines
 counts_plain test blind lines = folds_plain test blind 0 lines
 
 effect_plain : (says : What) → is_effect (plain_what says) ≡ is_effect says

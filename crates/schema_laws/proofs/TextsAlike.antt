@@ -14,10 +14,10 @@ use Rattle.schema_laws.proofs.LinesAlike.{protocol_alike, text_alike, params_ali
 use Rattle.schema_laws.specs.Runs.{TextsAlike}
 
 module _ (s : Schema) where
-  request_alike : (n : ℕ) (vs : Values) → request_text (plain_schema s) n vs ≡ request_text s n vs
+  pub request_alike : (n : ℕ) (vs : Values) → request_text (plain_schema s) n vs ≡ request_text s n vs
   request_alike n vs = λ i. text_alike s n i ++ listed s (params_of (plain_schema s) n) (params_of s n) vs (params_alike s n) i
 
-  named_alike : (number : Option ℕ) → returns_named (plain_schema s) number ≡ map plain_param_row (returns_named s number)
+  pub named_alike : (number : Option ℕ) → returns_named (plain_schema s) number ≡ map plain_param_row (returns_named s number)
   named_alike None = refl
   named_alike (Some n) = returns_alike s n
 
@@ -26,7 +26,7 @@ module _ (s : Schema) where
     given_alike : (n : ℤ) (vs : Values) → listed_values (plain_schema s) (others n) vs ≡ listed_values s (types n) vs
     given_alike n vs = listed s (others n) (types n) vs (same n)
 
-    what_alike : (w : What) → what_text (plain_schema s) others w ≡ what_text s types w
+    pub what_alike : (w : What) → what_text (plain_schema s) others w ≡ what_text s types w
     what_alike (what.Send n route message vs) = λ i. numbered (codes "send ") n ++ numbered (codes " to ") route ++ (codes " " ++ request_alike message vs i)
     what_alike (what.Call n transaction route message vs) = λ i. numbered (codes "call ") n ++ numbered (codes "/") transaction ++ numbered (codes " to ") route ++ (codes " " ++ request_alike message vs i)
     what_alike (what.RefusedSend cause message) = λ i. refused_text cause (codes " ") ++ text_alike s message i
