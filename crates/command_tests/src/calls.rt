@@ -101,7 +101,7 @@ fn files(alloc: Global, sources: Sources, failing: u64) -> Result<MemoryFiles, A
 /// Returns a sink that takes this number of bytes at once. The write with this number, counted from 1,
 /// fails.
 pub fn sink(alloc: Global, piece: usize, failing: u64) -> Result<MemorySink, AllocError> {
-    MemorySink::new(alloc, piece.max(1), 4000, vec![in alloc; failing]?)
+    MemorySink::new(alloc, piece.max(1), 8000, vec![in alloc; failing]?)
 }
 
 /// Returns what a call with these words leaves on these sinks.
