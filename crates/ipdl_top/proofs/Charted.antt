@@ -160,9 +160,9 @@ module _ (boxes : BoxesSayNothing) (schema : Schema) where
   row_plain : (rows : HistoryRows) (count : ℕ) (before : List Line) (line : Line) → row_text schema rows count (map plain_line before) (plain_line line) ≡ row_text schema rows count before line
   row_plain rows count before line =
       (λ i. title (begin_plain line i ++ line_plain before line i)
-          ++ (marks rows (place_plain count before line.side i) (plain_what line.what) ++ (label schema (place_plain count before line.side i) (line_plain before line i) (plain_what line.what) ++ codes "</g>\n")))
+      ++ (marks rows (place_plain count before line.side i) (plain_what line.what) ++ (label schema (place_plain count before line.side i) (line_plain before line i) (plain_what line.what) ++ codes "</g>\n")))
       ∙ (λ i. title (line_begin line ++ line_words schema before line)
-          ++ (marks_plain rows (place_of count before line.side) line.what i ++ (labelled_plain (place_of count before line.side) (line_words schema before line) line.what i ++ codes "</g>\n")))
+      ++ (marks_plain rows (place_of count before line.side) line.what i ++ (labelled_plain (place_of count before line.side) (line_words schema before line) line.what i ++ codes "</g>\n")))
 
   rows_plain : (rows : HistoryRows) (count : ℕ) (before lines : List Line) → rows_text schema rows count (map plain_line before) (map plain_line lines) ≡ rows_text schema rows count before lines
   rows_plain rows count before [] = refl

@@ -87,7 +87,7 @@ module _ (s : Schema) where
   row_alike rows count before line =
       (λ i. title (line_begin line ++ line_alike before line i) ++ (marks rows (place_of count before line.side) line.what ++ (label (plain_schema s) (place_of count before line.side) (line_alike before line i) line.what ++ codes "</g>\n")))
       ∙ (λ i. title (line_begin line ++ line_words s before line) ++ (marks rows (place_of count before line.side) line.what
-          ++ (words (anchor line.side ++ tone line.what) (label_place line.side) (74 + 20 * length before) (cut (words_alike (line_words s before line) line.what i)) ++ codes "</g>\n")))
+      ++ (words (anchor line.side ++ tone line.what) (label_place line.side) (74 + 20 * length before) (cut (words_alike (line_words s before line) line.what i)) ++ codes "</g>\n")))
 
   rows_alike : (rows : HistoryRows) (count : ℕ) (before lines : List Line) → rows_text (plain_schema s) rows count before lines ≡ rows_text s rows count before lines
   rows_alike rows count before [] = refl
