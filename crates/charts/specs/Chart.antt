@@ -45,7 +45,7 @@ is_trouble _ = false
 abbrev pub tone : What → List ℕ
 tone w = if is_trouble w then codes " class=\"trouble\" fill=\"#9a3412\"" else (if is_effect w then codes " opacity=\".75\"" else [])
 
--- how the words of a side stand beside its lifeline, and where
+-- on which side of their place the words of a label are, and where that place is
 abbrev pub anchor : Side → List ℕ
 anchor side.Parent = codes "text-anchor=\"end\""
 anchor side.Child = codes "text-anchor=\"start\""

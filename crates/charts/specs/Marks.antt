@@ -28,7 +28,7 @@ abbrev pub outbox_place : Side → ℕ
 outbox_place side.Parent = 611
 outbox_place side.Child = 789
 
--- from a row down to another, or to the bottom of the side
+-- how far one row is above another
 abbrev pub size : ℕ → ℕ → ℕ
 size from to = height to - height from
 

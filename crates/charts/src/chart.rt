@@ -73,7 +73,7 @@ fn tone(what: &What) -> &'static [u8]
     }
 }
 
-/// Returns how the words of a side stand beside its lifeline.
+/// Returns on which side of their place the words of a label are.
 fn anchor(side: Side) -> &'static [u8]
     ensures { result.now ≡ chart.anchor side }
 {
@@ -83,7 +83,7 @@ fn anchor(side: Side) -> &'static [u8]
     }
 }
 
-/// Returns where the words of a side are.
+/// Returns where the words of a label are.
 fn label_place(side: Side) -> u32
     ensures { result ≡ chart.label_place side }
 {

@@ -1,7 +1,8 @@
 use Rattle.std.proofs.Common.{◌≡◌, ◌∙◌, ◌+◌, ◌*◌, ◌++◌, ℕ, List, ap, sym, append_assoc, codes}
 use Rattle.charts.specs.Chart.{ending_words}
 use Rattle.charts.specs.Strokes.{words_begin}
-use Rattle.charts.proofs.Pieces.{follows, joined, last_piece}
+use Rattle.history.proofs.Lines.{put_one}
+use Rattle.charts.proofs.Pieces.{follows, joined}
 use Rattle.charts.proofs.chart.push_foot.Goals as goal
 
 pub returns : goal.returns
@@ -18,4 +19,4 @@ returns c =
     joined out begin (ending ++ (close ++ end)) c.push_words_begin.new.out.items last c.in_ok-push_words_begin.ensures
     (joined c.push_words_begin.new.out.items ending (close ++ end) c.extend_from_slice.new.self.items last second is)
     ∙ ap (λ (t : List ℕ). out ++ t) (sym (append_assoc (begin ++ ending) close end ∙ append_assoc begin ending (close ++ end))))
-    (last_piece c.extend_from_slice-2.result c.extend_from_slice.new.self.items (close ++ end) last c.extend_from_slice-2.ensures.items)
+    (put_one c.extend_from_slice-2.result c.extend_from_slice.new.self.items (close ++ end) last c.extend_from_slice-2.ensures.items)

@@ -3,7 +3,8 @@ use Rattle.history.specs.Text.{line_begin}
 use Rattle.charts.specs.Chart.{label, title}
 use Rattle.charts.specs.Marks.{marks}
 use Rattle.charts.specs.Noted.{noted}
-use Rattle.charts.proofs.Pieces.{follows, joined, last_piece}
+use Rattle.history.proofs.Lines.{put_one}
+use Rattle.charts.proofs.Pieces.{follows, joined}
 use Rattle.charts.proofs.Slices.{rest_of}
 use Rattle.charts.proofs.chart.push_row_of.Goals as goal
 
@@ -27,4 +28,4 @@ returns c =
     (joined c.push_title.new.out.items drawn (label schema place rest what ++ end) c.push_marks.new.out.items last c.in_ok-push_marks.ensures
     (joined c.push_marks.new.out.items (label schema place rest what) end c.push_label.new.out.items last c.in_ok-push_label.ensures is)) in
     whole ∙ (ap (λ (t : List ℕ). row t rest) begins ∙ ap (row (begin ++ words)) (rest_of text begin words c.begin_length.result c.begin_length.ensures begins)))
-    (last_piece c.extend_from_slice.result c.push_label.new.out.items end last c.extend_from_slice.ensures.items)
+    (put_one c.extend_from_slice.result c.push_label.new.out.items end last c.extend_from_slice.ensures.items)
