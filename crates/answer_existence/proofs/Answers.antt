@@ -11,6 +11,7 @@ use Rattle.ipdl_top.specs.declared.rendering.Rendering.TheVariants.{Chart, Summa
 use Rattle.ipdl_top.specs.Audit.{SaysAuditedOf}
 use Rattle.ipdl_top.specs.CommandAnswer.{AnswersTo, IsAnswer, SaysTables, table_answer, usage_answer}
 use Rattle.ipdl_top.specs.CommandFiles.{given_by}
+use Rattle.ipdl_top.specs.Explore.{SaysExplored}
 use Rattle.ipdl_top.specs.Feed.{SaysFedOf}
 use Rattle.ipdl_top.specs.FileViews.{FileViews}
 use Rattle.ipdl_top.specs.Frames.{SaysFrames}
@@ -22,7 +23,7 @@ use Rattle.ipdl_top.specs.Waits.{SaysWaits}
 use Rattle.actor_tables.specs.TableText.{table_text}
 use Rattle.answer_existence.specs.Laws.{DrivesAll, ExactlyOneAnswer, HasBytes, RelaysAll, RunsFreely, RunsQueues}
 use Rattle.answer_existence.proofs.Compiled.{CompilationLaws, has_compilation, has_compilation_of_one}
-use Rattle.answer_existence.proofs.Said.{SayingLaws, audit_said, by_script, feed_said, frames_said, history_said, relay_said, waits_said}
+use Rattle.answer_existence.proofs.Said.{SayingLaws, audit_said, by_script, explore_said, feed_said, frames_said, history_said, relay_said, waits_said}
 
 -- the laws from which an answer follows
 pub record AnswerLaws : Type 0 where
@@ -81,6 +82,10 @@ module _ (laws : AnswerLaws) (Gives : Driving) (Relays : Relaying) (seen : FileV
       has_compilation_of_one laws.compilation _ seen.files seen.list list path file is.1.operands.front is.1.operands.ending
       (by_script laws.saying (SaysHistory Gives Chart course) script (seen.script script) file
       (history_said laws.saying Gives Chart course (small_limit _ course.limit is.1.limit_is) (λ free. drives.0 (record { list = list; path = path; course = course; script = script; file = file; is_run = inr is; free = free }))))
+  answer_to (command.explore list path course script file) [] is drives = absurd is
+  answer_to (command.explore list path course script file) (word ∷ words) is drives =
+      has_compilation_of_one laws.compilation _ seen.files seen.list list path file is.1.operands.front is.1.operands.ending
+      (by_script laws.saying (SaysExplored course) script (seen.script script) file (explore_said laws.saying course (small_limit _ course.limit is.1.limit_is)))
 
   has_answer : (words : List (List ℕ)) → AllByRecursion IsUtf8 words → Drives words → (answer : CommandAnswer) × IsAnswer Gives Relays seen words answer
   has_answer words texts drives =

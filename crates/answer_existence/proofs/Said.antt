@@ -1,9 +1,11 @@
 -- Each command has an answer for a sound schema.
 use Rattle.std.proofs.Common.{◌≡◌, ◌⊎◌, ℕ, ◌<◌, ◌≤◌, ◌+◌, Bool, List, [], ◌∷◌, length, Option, Some, None, refl, sym, subst, inl, inr, ⊎_elim, arith}
 use Rattle.std.proofs.lemmas.Bool.{cases_lt}
+use Rattle.command_words.specs.Explore.{ExploreCourse}
 use Rattle.command_words.specs.Feed.{FeedCourse}
 use Rattle.command_words.specs.Relay.{RelayCourse}
 use Rattle.command_words.specs.Run.{Course}
+use Rattle.explorations.specs.Laws.{ExplorationsExist, WaysAreRun, WaysCoverTexts}
 use Rattle.feed_runs.specs.FeedTurns.{Feed}
 use Rattle.handler_script.proofs.Validity.{script_valid}
 use Rattle.handler_script.specs.Valid.{IsValid}
@@ -20,6 +22,7 @@ use Rattle.ipdl_top.specs.declared.rendering.Rendering.{Rendering}
 use Rattle.ipdl_top.specs.declared.status.Status.TheVariants as status
 use Rattle.ipdl_top.specs.Audit.{SaysAudited, SaysAuditedOf, audit_answer}
 use Rattle.ipdl_top.specs.Audited.{IsAudited, audited_setting}
+use Rattle.ipdl_top.specs.Explore.{SaysExplored, explore_answer}
 use Rattle.ipdl_top.specs.Feed.{SaysFed, SaysFedOf, feed_answer, feed_setting}
 use Rattle.ipdl_top.specs.Ended.{answer_of, ended_answer}
 use Rattle.ipdl_top.specs.Frames.{SaysBytes, SaysFrames, frames_answer, frames_out}
@@ -83,6 +86,9 @@ pub record SayingLaws : Type 0 where
   pub weighed : HistoriesAreWeighed
   pub sides : SidesObeyAlone
   pub relayed : RelayedLaws
+  pub explorations : ExplorationsExist
+  pub ways_run : WaysAreRun
+  pub ways_cover : WaysCoverTexts
 
 -- Files
 
@@ -226,6 +232,24 @@ module _ (laws : SayingLaws) where
         let setting = audited_setting schema script limit in
         let found = audited setting text (laws.texts setting (record { sound = sound; valid = valid; limit = omega (arith, few) }) text) in
         (audit_answer name found.0, record { sound = sound; valid = valid; found = found.0; audited = found.1; says = refl }))
+
+  -- Explorations
+
+  pub explore_said : (course : ExploreCourse) → course.limit ≤ 20000 → (schema : Schema) → IsSound schema → SaysOfScripts schema (SaysExplored course schema)
+  explore_said course few schema sound script valid =
+      let setting = audited_setting schema script course.limit in
+      let found = laws.explorations setting course.ways sound valid (omega (arith, few)) in (
+        explore_answer found.0,
+        record {
+          sound = sound;
+          valid = valid;
+          exploration = found.0;
+          explored = found.1;
+          runs = λ way listed. laws.ways_run setting course.ways found.0 way found.1 listed;
+          covers = λ whole text legal. laws.ways_cover setting course.ways found.0 text sound valid (omega (arith, few)) found.1 whole legal;
+          says = refl;
+        },
+      )
 
   -- Relays
 

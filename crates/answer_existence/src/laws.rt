@@ -4,6 +4,8 @@
 ghost use Rattle.answer_existence.specs.Laws.{ExactlyOneAnswer, RelaysEnd, TurnsRelayAll, WordsDriveAll};
 
 use command_existence::words_are_decided;
+use exploration_existence::explorations_exist;
+use exploration_laws::{ways_are_run, ways_cover_texts};
 use file_existence::{clean_files_have_programs, findings_are_listed, reaches_exist};
 use ipdl_top::answer_is_determined;
 use law_statements::{decides_fallen, decides_readable, laws_want_readable_lines};
@@ -79,6 +81,9 @@ pub fn one_answer<D: Driver, Q: Relay>(driver: &D, relay: &Q)
     wait_reports_exist();
     words_have_runs();
     texts_are_decided();
+    explorations_exist();
+    ways_are_run();
+    ways_cover_texts();
     feeds_come_to_an_end();
     feeds_obey_alone();
     feeds_run_alone();

@@ -4,7 +4,6 @@ ghost use Rattle.handler_script.specs.Valid.{IsValid};
 ghost use Rattle.ipdl_base.specs.Sound.{IsSound};
 
 use super::given::{schema_of, script_of};
-use super::rows::SCRIPT;
 use super::texts::found;
 use handler_script::Script;
 use ipdl_base::{Schema, Side};
@@ -14,6 +13,7 @@ use std::sync::Wait;
 use std::test::Fail;
 use std::thread::Threads;
 use thread_link::{Gate, TwoThreads};
+use worked_runs::RACE_SCRIPT;
 use world_core::{Driver, RunAnswer, World};
 
 /// Returns the last line of what a run prints.
@@ -96,7 +96,7 @@ fn legal_runs<R: Threads + Wait + Sync + AllocGlobal>(
 #[test]
 fn race_is_legal(rt: HostRuntime) -> Result<(), Fail> {
     let schema = schema_of(rt.alloc(), "PW.ipdl")?;
-    let script = script_of(rt.alloc(), &schema, "PW.ipdl", SCRIPT)?;
+    let script = script_of(rt.alloc(), &schema, "PW.ipdl", RACE_SCRIPT)?;
     let good = legal_runs(&rt, &schema, &script, 12)?;
     assert_eq!(rt; good, 100);
     Ok(())
@@ -126,7 +126,7 @@ fn limited_runs<R: Threads + Wait + Sync + AllocGlobal>(
 #[test]
 fn race_at_a_limit_is_legal(rt: HostRuntime) -> Result<(), Fail> {
     let schema = schema_of(rt.alloc(), "PW.ipdl")?;
-    let script = script_of(rt.alloc(), &schema, "PW.ipdl", SCRIPT)?;
+    let script = script_of(rt.alloc(), &schema, "PW.ipdl", RACE_SCRIPT)?;
     let good = limited_runs(&rt, &schema, &script)?;
     assert_eq!(rt; good, 50);
     Ok(())

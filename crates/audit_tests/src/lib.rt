@@ -14,10 +14,6 @@ mod relay_rows;
 #[cfg(test)]
 mod relays;
 #[cfg(test)]
-mod rows;
-#[cfg(test)]
-mod swap_rows;
-#[cfg(test)]
 mod swaps;
 #[cfg(test)]
 mod texts;

@@ -7,8 +7,6 @@ use super::apart::ending_of;
 use super::changes::MOST_EVENTS;
 use super::given::{schema_of, script_of};
 use super::relay_rows::RELAYS;
-use super::rows::SCRIPT;
-use super::swaps::events_of;
 use super::texts::found;
 use handler_script::Script;
 use history::history_text;
@@ -19,7 +17,7 @@ use std::alloc::Global;
 use std::sync::Wait;
 use std::test::Fail;
 use std::thread::Threads;
-use worked_runs::{RUNS, Row, row_of};
+use worked_runs::{RACE_SCRIPT, RUNS, Row, events_of, row_of};
 use world_core::{Halves, OneThread, Relay, RunAnswer, Stop, World};
 
 /// Returns what a relay prints: the lines of the parent, those of the child, and how it ended.
@@ -189,7 +187,11 @@ fn check_row<R: Threads + Wait + Sync + AllocGlobal>(
 ) -> Result<(), Fail>
     requires { IsSound schema.now }
 {
-    let text = if row.script == "" { SCRIPT } else { row.script };
+    let text = if row.script == "" {
+        RACE_SCRIPT
+    } else {
+        row.script
+    };
     let script = script_of(rt.alloc(), schema, row.file, text)?;
     let stop = stop_of(row)?;
     let text = printed_in_turn(rt.alloc(), schema, &script, stop)?;

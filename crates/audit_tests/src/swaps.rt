@@ -4,42 +4,12 @@ ghost use Rattle.handler_script.specs.Valid.{IsValid};
 ghost use Rattle.ipdl_base.specs.Sound.{IsSound};
 
 use super::given::{limit_of, schema_of, script_of};
-use super::swap_rows::SWAPS;
 use super::texts::said;
 use handler_script::Script;
 use ipdl_base::Schema;
 use std::alloc::Global;
 use std::test::Fail;
-use worked_runs::{RUNS, Row, row_of};
-
-/// Returns the events of what a run prints, each with its effects, and after them the line that reports
-/// how it ended.
-pub fn events_of(alloc: Global, printed: &str) -> Result<Vec<String>, Fail> {
-    let mut events = Vec::new(alloc);
-    for line in printed.lines() {
-        if !line.starts_with("  ") {
-            events.push(String::new(alloc))?;
-        }
-        let event: &mut String = events.last_mut().ok_or("an effect without its event")?;
-        writeln!(event, "{line}")?;
-    }
-    Ok(events)
-}
-
-/// Returns the text of these events, with the one at a place after the next one.
-fn swapped(alloc: Global, events: &[String], place: usize) -> Result<String, Fail> {
-    let next = place.saturating_add(1);
-    let mut text = String::new(alloc);
-    for (at, event) in events.iter().enumerate() {
-        if at == place {
-            text.push_str(events.get(next).ok_or("no next event")?.as_str())?;
-        }
-        if at != next {
-            text.push_str(event.as_str())?;
-        }
-    }
-    Ok(text)
-}
+use worked_runs::{RUNS, Row, SWAPS, events_of, row_of, swapped};
 
 /// Returns whether two events are of different sides.
 fn are_apart(one: &str, other: &str) -> bool {

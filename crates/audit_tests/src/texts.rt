@@ -5,12 +5,12 @@ ghost use Rattle.ipdl_base.specs.Sound.{IsSound};
 ghost use Rattle.std.specs.Prelude.{◌≤◌, length};
 
 use super::given::{schema_of, script_of};
-use super::rows::{AUDITS, SCRIPT};
 use handler_script::Script;
 use ipdl_base::Schema;
 use ipdl_top::{Audit, audit_text};
 use std::alloc::Global;
 use std::test::Fail;
+use worked_runs::{AUDITS, RACE_SCRIPT};
 
 /// Returns an audit as text.
 fn shown(alloc: Global, found: Audit) -> Result<String, Fail> {
@@ -98,7 +98,7 @@ fn checked(alloc: Global, schema: &Schema, script: &Script) -> Result<String, Fa
 fn all_rows(alloc: Global, schema: &Schema) -> Result<String, Fail>
     requires { IsSound schema.now }
 {
-    let script = script_of(alloc, schema, "PW.ipdl", SCRIPT)?;
+    let script = script_of(alloc, schema, "PW.ipdl", RACE_SCRIPT)?;
     checked(alloc, schema, &script)
 }
 

@@ -5,8 +5,9 @@ use Rattle.std.specs.List.{AllByRecursion}
 use Rattle.std.specs.Str.{IsUtf8}
 use Rattle.clap.specs.Words.{Kinds, fault_of}
 use Rattle.command_words.specs.Audit.{IsNoAudit, audit_options, audit_word}
-use Rattle.command_words.specs.Command.{CommandView, Say, audit, chart, compile, feed, frames, gen, relay, run, waits}
+use Rattle.command_words.specs.Command.{CommandView, Say, audit, chart, compile, explore, feed, frames, gen, relay, run, waits}
 use Rattle.command_words.specs.Compile.{AreFiles, IsForCompile, IsNoCompile, IsPath, compile_options}
+use Rattle.command_words.specs.Explore.{IsMostWays, IsNoExplore, explore_options, explore_word}
 use Rattle.command_words.specs.Feed.{IsNoFeed, IsSide, feed_options, feed_word}
 use Rattle.command_words.specs.Forms.{form_of, own_id}
 use Rattle.command_words.specs.Frames.{AreOperands, IsConversion, IsNoFrames, frames_options, frames_word}
@@ -20,6 +21,7 @@ use Rattle.command_words.specs.Tables.{IsTable}
 use Rattle.command_words.specs.Waits.{IsNoWaits, IsOperand, waits_word}
 use Rattle.command_words.proofs.AuditFound.{audit_table}
 use Rattle.command_words.proofs.Compiled.{path_ne, same_value, same_words, table}
+use Rattle.command_words.proofs.ExploreFound.{explore_table, ways_ne}
 use Rattle.command_words.proofs.FeedFound.{feed_table}
 use Rattle.command_words.proofs.FramesFound.{frames_table}
 use Rattle.command_words.proofs.GenFound.{gen_table}
@@ -29,7 +31,7 @@ use Rattle.command_words.proofs.Rows.{fresh_once, read_proper}
 use Rattle.command_words.proofs.RunFound.{die_ne, limit_ne, run_table}
 use Rattle.command_words.proofs.Walks.{AreTexts, words_read}
 use Rattle.command_existence.proofs.Files.{files_decided, frames_operands_decided, operand_decided, rounds_word_decided, run_operands_decided, script_operands_decided}
-use Rattle.command_existence.proofs.Values.{Decided, Text, actors_decided, conversion_decided, death_decided, limit_decided, path_decided, schedule_decided, side_decided}
+use Rattle.command_existence.proofs.Values.{Decided, Text, actors_decided, conversion_decided, death_decided, limit_decided, most_ways_decided, path_decided, schedule_decided, side_decided}
 
 -- What words mean for their options
 
@@ -253,3 +255,27 @@ module _ (words : List Text) (texts : AllByRecursion IsUtf8 words) where
       by : Decided (IsSaid relay_options words) → ((command : CommandView) × Say (relay_word ∷ words) command) ⊎ IsNoRelay (relay_word ∷ words)
       by (inr none) = inr (λ list path course script file c. none c.1.said (record { reads = c.1.reads; once = c.1.once }))
       by (inl (said, s)) = by_values said s (path_decided (value_of (codes "path") said)) (limit_decided (value_of (codes "limit") said)) (death_decided (value_of (codes "die") said)) (run_operands_decided (own_words said))
+
+  pub explore_decided : ((command : CommandView) × Say (explore_word ∷ words) command) ⊎ IsNoExplore (explore_word ∷ words)
+  explore_decided = by (said_decided explore_options explore_table words texts)
+    where
+      by_values : (said : List WordUse) → IsSaid explore_options words said → Decided (IsPath (value_of (codes "path") said)) → Decided (IsLimit (value_of (codes "limit") said)) → Decided (IsMostWays (value_of (codes "ways") said))
+          → ((script : Text) × (file : Text) × AreRunOperands (own_words said) script file) ⊎ ((script file : Text) → AreRunOperands (own_words said) script file → ⊥)
+          → ((command : CommandView) × Say (explore_word ∷ words) command) ⊎ IsNoExplore (explore_word ∷ words)
+      by_values said s (inl (path, p)) (inl (limit, l)) (inl (ways, w)) (inl (script, file, o)) =
+          inl (
+            explore (value_of (codes "sync-msg-list") said) path (record { limit = limit; ways = ways }) script file,
+            (refl, record { said = said; reads = s.reads; once = s.once; list_is = refl; path_is = p; limit_is = l; ways_are = w; operands = o }),
+          )
+      by_values said s (inr none) limit ways operands =
+          inr (λ list path course script file c. none path (given_so explore_options explore_table words said s c.1.said (record { reads = c.1.reads; once = c.1.once }) (λ v. IsPath v path) (codes "path") path_ne c.1.path_is))
+      by_values said s (inl path) (inr none) ways operands =
+          inr (λ list path course script file c. none course.limit (given_so explore_options explore_table words said s c.1.said (record { reads = c.1.reads; once = c.1.once }) (λ v. IsLimit v course.limit) (codes "limit") limit_ne c.1.limit_is))
+      by_values said s (inl path) (inl limit) (inr none) operands =
+          inr (λ list path course script file c. none course.ways (given_so explore_options explore_table words said s c.1.said (record { reads = c.1.reads; once = c.1.once }) (λ v. IsMostWays v course.ways) (codes "ways") ways_ne c.1.ways_are))
+      by_values said s (inl path) (inl limit) (inl ways) (inr none) =
+          inr (λ list path course script file c. none script file (others_so explore_options explore_table words said s c.1.said (record { reads = c.1.reads; once = c.1.once }) (λ ws. AreRunOperands ws script file) c.1.operands))
+
+      by : Decided (IsSaid explore_options words) → ((command : CommandView) × Say (explore_word ∷ words) command) ⊎ IsNoExplore (explore_word ∷ words)
+      by (inr none) = inr (λ list path course script file c. none c.1.said (record { reads = c.1.reads; once = c.1.once }))
+      by (inl (said, s)) = by_values said s (path_decided (value_of (codes "path") said)) (limit_decided (value_of (codes "limit") said)) (most_ways_decided (value_of (codes "ways") said)) (run_operands_decided (own_words said))

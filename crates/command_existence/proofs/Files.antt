@@ -5,9 +5,10 @@ use Rattle.std.proofs.lemmas.List.{append-nil}
 use Rattle.ipdl_base.specs.FileNames.{IsFileWord, key_of}
 use Rattle.command_words.specs.Compile.{AreFiles, AreListed, HasWord}
 use Rattle.command_words.specs.Frames.{AreOperands}
-use Rattle.command_words.specs.Gen.{IsCount, IsRounds}
+use Rattle.command_words.specs.Gen.{IsRounds}
 use Rattle.command_words.specs.Operands.{AreScriptOperands}
 use Rattle.command_words.specs.Run.{AreRunOperands}
+use Rattle.command_words.specs.RunOptions.{IsCount}
 use Rattle.command_words.specs.Waits.{IsOperand}
 use Rattle.command_words.proofs.FileLists.{again_listed, full_listed, key_listed, new_listed, not_listed}
 use Rattle.report_existence.proofs.Lists.{EndsWith, ends_or_not, text_or_not}

@@ -10,11 +10,12 @@ use Rattle.ipdl_base.specs.declared.kinds.Side.TheVariants.{Parent, Child}
 use Rattle.schedules.specs.declared.stop.Stop.{Stop}
 use Rattle.schedules.specs.declared.turn.Turn.{Turn}
 use Rattle.command_words.specs.Compile.{IsPath}
+use Rattle.command_words.specs.Explore.{IsMostWays}
 use Rattle.command_words.specs.Feed.{IsSide}
 use Rattle.command_words.specs.Frames.{IsConversion, IsTwo}
-use Rattle.command_words.specs.Gen.{IsActors, IsCount}
+use Rattle.command_words.specs.Gen.{IsActors}
 use Rattle.command_words.specs.Listed.{pieces}
-use Rattle.command_words.specs.RunOptions.{IsDeath, IsLimit, IsNumber, IsSchedule, IsStopOf, letter_for, letter_of, word_of}
+use Rattle.command_words.specs.RunOptions.{IsCount, IsDeath, IsLimit, IsNumber, IsSchedule, IsStopOf, letter_for, letter_of, word_of}
 use Rattle.command_words.proofs.Pieces.{dirs_pass, pieces_are}
 use Rattle.report_existence.proofs.Lists.{BeginsWith, EndsWith, begins_or_not, ends_or_not, text_or_not}
 
@@ -63,6 +64,10 @@ rounds_decided = count_decided 1000
 pub actors_decided : (value : Option Text) → Decided (IsActors value)
 actors_decided None = inl (4, refl)
 actors_decided (Some text) = count_decided 100 text
+
+pub most_ways_decided : (value : Option Text) → Decided (IsMostWays value)
+most_ways_decided None = inl (1000, refl)
+most_ways_decided (Some text) = count_decided 10000 text
 
 pub limit_decided : (value : Option Text) → Decided (IsLimit value)
 limit_decided None = inl (10000, refl)

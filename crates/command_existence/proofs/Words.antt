@@ -5,16 +5,17 @@ use Rattle.std.specs.Str.{IsUtf8}
 use Rattle.command_words.specs.Audit.{audit_word}
 use Rattle.command_words.specs.Command.{CommandView, IsNoCommand, Say}
 use Rattle.command_words.specs.Compile.{IsForCompile}
+use Rattle.command_words.specs.Explore.{explore_word}
 use Rattle.command_words.specs.Feed.{feed_word}
 use Rattle.command_words.specs.Frames.{frames_word}
 use Rattle.command_words.specs.Gen.{gen_word}
 use Rattle.command_words.specs.Relay.{relay_word}
 use Rattle.command_words.specs.Run.{chart_word, run_word}
 use Rattle.command_words.specs.Waits.{waits_word}
-use Rattle.command_words.proofs.OneCommand.{for_compile, none_after_audit, none_after_chart, none_after_feed, none_after_frames, none_after_gen, none_after_relay, none_after_run, none_after_waits, none_for_compile}
+use Rattle.command_words.proofs.OneCommand.{for_compile, none_after_audit, none_after_chart, none_after_explore, none_after_feed, none_after_frames, none_after_gen, none_after_relay, none_after_run, none_after_waits, none_for_compile}
 use Rattle.report_existence.proofs.Lists.{text_or_not}
 use Rattle.command_existence.specs.Laws.{WordsAreDecided}
-use Rattle.command_existence.proofs.Commands.{audit_decided, chart_decided, compile_decided, feed_decided, frames_decided, gen_decided, relay_decided, run_decided, waits_decided}
+use Rattle.command_existence.proofs.Commands.{audit_decided, chart_decided, compile_decided, explore_decided, feed_decided, frames_decided, gen_decided, relay_decided, run_decided, waits_decided}
 use Rattle.command_existence.proofs.Values.{Text}
 
 -- the words are a command, or are not
@@ -44,8 +45,11 @@ by_first word rest texts =
     (λ no_relay.
     ⊎_elim (λ (e : word ≡ chart_word). so (word ∷ rest) (none_after_chart (word ∷ rest) rest (first e)) (at e (chart_decided rest texts.1)))
     (λ no_chart.
-    let chosen : IsForCompile (word ∷ rest) = for_compile word rest no_frames no_waits no_run no_gen no_feed no_audit no_relay no_chart in
+    ⊎_elim (λ (e : word ≡ explore_word). so (word ∷ rest) (none_after_explore (word ∷ rest) rest (first e)) (at e (explore_decided rest texts.1)))
+    (λ no_explore.
+    let chosen : IsForCompile (word ∷ rest) = for_compile word rest no_frames no_waits no_run no_gen no_feed no_audit no_relay no_chart no_explore in
     so (word ∷ rest) (none_for_compile (word ∷ rest) chosen) (compile_decided (word ∷ rest) texts chosen))
+    (text_or_not word explore_word))
     (text_or_not word chart_word))
     (text_or_not word relay_word))
     (text_or_not word audit_word))

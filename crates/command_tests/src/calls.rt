@@ -3,6 +3,7 @@
 use super::audit_rows::AUDITS;
 use super::call_rows::{HELLO, LISTED, LISTS, NAMES, REACHES, REPORTS, WORDS};
 use super::chart_rows::CHARTS;
+use super::explore_rows::EXPLORATIONS;
 use super::feed_rows::{FEEDS, IDLE};
 use super::frame_rows::{FLAG, FRAMES};
 use super::relay_rows::RELAYS;
@@ -25,6 +26,7 @@ const USAGE: &str = "usage: ipdl [-s LIST] [--path DIRS] FILES
        ipdl audit [-s LIST] [--path DIRS] [--limit N] SCRIPT FILE TRANSCRIPT
        ipdl relay [-s LIST] [--path DIRS] [--die SIDE:K] [--limit N] SCRIPT FILE
        ipdl chart [-s LIST] [--path DIRS] [--schedule WORD] [--limit N] [--die SIDE:K] SCRIPT FILE
+       ipdl explore [-s LIST] [--path DIRS] [--limit N] [--ways M] SCRIPT FILE
 ";
 
 /// A file: its name and its bytes.
@@ -277,6 +279,7 @@ fn calls(rt: HostRuntime) -> Result<(), Fail> {
     assert_eq!(rt; wrong_calls(alloc, AUDITS, RACE)?.as_str(), "");
     assert_eq!(rt; wrong_calls(alloc, RELAYS, RACE)?.as_str(), "");
     assert_eq!(rt; wrong_calls(alloc, CHARTS, RACE)?.as_str(), "");
+    assert_eq!(rt; wrong_calls(alloc, EXPLORATIONS, RACE)?.as_str(), "");
     Ok(())
 }
 

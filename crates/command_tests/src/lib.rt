@@ -10,6 +10,8 @@ mod calls;
 #[cfg(test)]
 mod chart_rows;
 #[cfg(test)]
+mod explore_rows;
+#[cfg(test)]
 mod feed_rows;
 #[cfg(test)]
 mod frame_rows;

@@ -11,9 +11,10 @@ use std::test::Fail;
 /// frames follow, or `<2` if it converts them. After `!` are the script, the file, the word of turns
 /// after `=`, the limit and the death of a run, and after `*` those of a run that is drawn. After `&` are the script, the file, the file of frames,
 /// the side and the limit of a feed. After `^` are the script, the file, the transcript and the limit
-/// of an audit; after `~` the script, the file, the limit and the death of a relay. `%` precedes the
-/// rounds and the actors of a generated case. The meaning is empty if the words are not a command. An
-/// empty word is written as two single quotes.
+/// of an audit; after `~` the script, the file, the limit and the death of a relay; after `+` the
+/// script, the file, the limit and the most ways of an exploration. `%` precedes the rounds and the
+/// actors of a generated case. The meaning is empty if the words are not a command. An empty word is
+/// written as two single quotes.
 const ROWS: &str = "x.ipdl => none . x.ipdl
 x.ipdlh => none . x.ipdlh
 a.ipdl b.ipdlh c.ipdl => none . a.ipdl b.ipdlh c.ipdl
@@ -267,6 +268,32 @@ chart --die child s.ids x.ipdl =>
 chart chart chart.ipdl => none . * chart chart.ipdl - 10000 -
 chart.ipdl => none . chart.ipdl
 -s l chart s.ids x.ipdl =>
+explore s.ids x.ipdl => none . + s.ids x.ipdl 10000 1000
+explore -sl s.ids --path d:e --limit 7 --ways 9 x.ipdl => =l d:e + s.ids x.ipdl 7 9
+explore --ways 1 s.ids x.ipdl => none . + s.ids x.ipdl 10000 1
+explore --ways 10000 s.ids x.ipdl => none . + s.ids x.ipdl 10000 10000
+explore s.ids x.ipdl --ways=0008 => none . + s.ids x.ipdl 10000 8
+explore --ways 0 s.ids x.ipdl =>
+explore --ways 10001 s.ids x.ipdl =>
+explore --ways +8 s.ids x.ipdl =>
+explore --ways= s.ids x.ipdl =>
+explore --ways 4294967304 s.ids x.ipdl =>
+explore --ways 8 --ways 8 s.ids x.ipdl =>
+explore s.ids x.ipdl --ways =>
+explore --limit 0 s.ids x.ipdl =>
+explore --limit 20001 s.ids x.ipdl =>
+explore --die child:9 s.ids x.ipdl =>
+explore --schedule PC s.ids x.ipdl =>
+explore --to 2 s.ids x.ipdl =>
+explore =>
+explore s.ids =>
+explore x.ipdl =>
+explore s.ids x.ipdlh =>
+explore s.ids x.ipdl y =>
+explore explore explore.ipdl => none . + explore explore.ipdl 10000 1000
+explore.ipdl => none . explore.ipdl
+-s l explore s.ids x.ipdl =>
+run --ways 8 s.ids x.ipdl =>
 gen 1 => % 1 4
 gen 1000 => % 1000 4
 gen 007 => % 7 4
@@ -459,6 +486,14 @@ fn push_command(line: &mut String, command: &Command) -> Result<(), AllocError> 
             push_death(line, &options.death)
         }
         Command::Chart(sources, options) => push_run(line, "*", sources, options),
+        Command::Explore(sources, options) => {
+            push_sources(line, sources)?;
+            let script = options.script.as_str();
+            let file = sources.file.as_str();
+            let limit = options.limit;
+            let ways = options.ways;
+            write!(line, "+ {script} {file} {limit} {ways}")
+        }
     }
 }
 
@@ -511,7 +546,7 @@ fn checked(alloc: Global) -> Result<String, Fail> {
 
 #[test]
 fn lists_of_words(rt: HostRuntime) -> Result<(), Fail> {
-    assert_eq!(rt; checked(rt.alloc())?.as_str(), "300");
+    assert_eq!(rt; checked(rt.alloc())?.as_str(), "326");
     Ok(())
 }
 

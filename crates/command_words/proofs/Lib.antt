@@ -20,4 +20,5 @@ pub mod GenFound
 pub mod FeedFound
 pub mod AuditFound
 pub mod RelayFound
+pub mod ExploreFound
 pub mod OneCommand

@@ -1,9 +1,10 @@
 -- Words are one command at most, and when they are not a command.
 use Rattle.std.proofs.Common.{◌≡◌, ◌≢◌, ◌∙◌, ◌+◌, ℕ, Bool, true, false, cond, List, [], ◌∷◌, length, map, refl, sym, ap, subst, arith, inl, inr}
 use Rattle.std.specs.Str.{bytes_eq}
-use Rattle.command_words.specs.Command.{CommandView, IsNoCommand, Say, audit, chart, compile, feed, frames, gen, relay, run, waits}
+use Rattle.command_words.specs.Command.{CommandView, IsNoCommand, Say, audit, chart, compile, explore, feed, frames, gen, relay, run, waits}
 use Rattle.command_words.specs.Audit.{IsNoAudit, audit_word}
 use Rattle.command_words.specs.Compile.{HasWord, IsForCompile, IsNoCompile, other_commands}
+use Rattle.command_words.specs.Explore.{IsNoExplore, explore_word}
 use Rattle.command_words.specs.Feed.{IsNoFeed, feed_word}
 use Rattle.command_words.specs.Frames.{IsNoFrames, frames_word}
 use Rattle.command_words.specs.Gen.{IsNoGen, gen_word}
@@ -13,6 +14,7 @@ use Rattle.command_words.specs.Waits.{IsNoWaits, waits_word}
 use Rattle.command_words.proofs.AuditFound.{one_audit}
 use Rattle.command_words.proofs.Comparisons.{text_is}
 use Rattle.command_words.proofs.Compiled.{Text, one_compile}
+use Rattle.command_words.proofs.ExploreFound.{one_explore}
 use Rattle.command_words.proofs.FeedFound.{one_feed}
 use Rattle.command_words.proofs.FramesFound.{one_frames}
 use Rattle.command_words.proofs.GenFound.{one_gen}
@@ -39,6 +41,7 @@ kind (feed l p c s f g) = 4
 kind (audit l p n s f g) = 5
 kind (relay l p c s f) = 6
 kind (chart l p c s f) = 7
+kind (explore l p c s f) = 8
 kind (compile l p f) = length other_commands
 
 absent : (ws : List Text) (word : Text) → ¬ HasWord ws word → place ws word ≡ length ws
@@ -63,6 +66,7 @@ kind_is [] (feed l p c s f g) said = absurd said
 kind_is [] (audit l p n s f g) said = absurd said
 kind_is [] (relay l p c s f) said = absurd said
 kind_is [] (chart l p c s f) said = absurd said
+kind_is [] (explore l p c s f) said = absurd said
 kind_is (word ∷ words) (compile l p f) said = sym (absent other_commands word said.chosen)
 kind_is (word ∷ words) (frames l p f g c) said = begin word frames_word 0 refl said.0
 kind_is (word ∷ words) (waits l p f) said = begin word waits_word 1 refl said.0
@@ -72,6 +76,7 @@ kind_is (word ∷ words) (feed l p c s f g) said = begin word feed_word 4 refl s
 kind_is (word ∷ words) (audit l p n s f g) said = begin word audit_word 5 refl said.0
 kind_is (word ∷ words) (relay l p c s f) said = begin word relay_word 6 refl said.0
 kind_is (word ∷ words) (chart l p c s f) said = begin word chart_word 7 refl said.0
+kind_is (word ∷ words) (explore l p c s f) said = begin word explore_word 8 refl said.0
 
 pub one_command : (words : List Text) (one other : CommandView) → Say words one → Say words other → one ≡ other
 one_command words (compile l p f) (compile l' p' f') a b = let e = one_compile words l l' p p' f f' a b in rw (e.0, e.1, e.2) refl
@@ -83,6 +88,7 @@ one_command words (feed l p c s f g) (feed l' p' c' s' f' g') a b = let e = one_
 one_command words (audit l p n s f g) (audit l' p' n' s' f' g') a b = let e = one_audit words l l' p p' n n' s s' f f' g g' a b in rw (e.0, e.1, e.2, e.3, e.4, e.5) refl
 one_command words (relay l p c s f) (relay l' p' c' s' f') a b = let e = one_relay words l l' p p' c c' s s' f f' a b in rw (e.0, e.1, e.2, e.3, e.4) refl
 one_command words (chart l p c s f) (chart l' p' c' s' f') a b = let e = one_run chart_word words l l' p p' c c' s s' f f' a b in rw (e.0, e.1, e.2, e.3, e.4) refl
+one_command words (explore l p c s f) (explore l' p' c' s' f') a b = let e = one_explore words l l' p p' c c' s s' f f' a b in rw (e.0, e.1, e.2, e.3, e.4) refl
 one_command words one other a b = let e = kind_is words one a ∙ sym (kind_is words other b) in absurd (omega (arith, e))
 
 -- words that choose no other command and compile nothing are not a command
@@ -92,16 +98,17 @@ none_for_compile [] for none command said = absurd said
 none_for_compile (word ∷ words) for none command said = let e = kind_is (word ∷ words) command said ∙ absent other_commands word for in absurd (omega (arith, e))
 
 -- words whose first is that of none of them choose no other command, and no words do
-pub for_compile : (word : Text) (words : List Text) → word ≢ frames_word → word ≢ waits_word → word ≢ run_word → word ≢ gen_word → word ≢ feed_word → word ≢ audit_word → word ≢ relay_word → word ≢ chart_word → IsForCompile (word ∷ words)
-for_compile word words no_frames no_waits no_run no_gen no_feed no_audit no_relay no_chart (inl e) = no_frames (sym e)
-for_compile word words no_frames no_waits no_run no_gen no_feed no_audit no_relay no_chart (inr (inl e)) = no_waits (sym e)
-for_compile word words no_frames no_waits no_run no_gen no_feed no_audit no_relay no_chart (inr (inr (inl e))) = no_run (sym e)
-for_compile word words no_frames no_waits no_run no_gen no_feed no_audit no_relay no_chart (inr (inr (inr (inl e)))) = no_gen (sym e)
-for_compile word words no_frames no_waits no_run no_gen no_feed no_audit no_relay no_chart (inr (inr (inr (inr (inl e))))) = no_feed (sym e)
-for_compile word words no_frames no_waits no_run no_gen no_feed no_audit no_relay no_chart (inr (inr (inr (inr (inr (inl e)))))) = no_audit (sym e)
-for_compile word words no_frames no_waits no_run no_gen no_feed no_audit no_relay no_chart (inr (inr (inr (inr (inr (inr (inl e))))))) = no_relay (sym e)
-for_compile word words no_frames no_waits no_run no_gen no_feed no_audit no_relay no_chart (inr (inr (inr (inr (inr (inr (inr (inl e)))))))) = no_chart (sym e)
-for_compile word words no_frames no_waits no_run no_gen no_feed no_audit no_relay no_chart (inr (inr (inr (inr (inr (inr (inr (inr none)))))))) = none
+pub for_compile : (word : Text) (words : List Text) → word ≢ frames_word → word ≢ waits_word → word ≢ run_word → word ≢ gen_word → word ≢ feed_word → word ≢ audit_word → word ≢ relay_word → word ≢ chart_word → word ≢ explore_word → IsForCompile (word ∷ words)
+for_compile word words no_frames no_waits no_run no_gen no_feed no_audit no_relay no_chart no_explore (inl e) = no_frames (sym e)
+for_compile word words no_frames no_waits no_run no_gen no_feed no_audit no_relay no_chart no_explore (inr (inl e)) = no_waits (sym e)
+for_compile word words no_frames no_waits no_run no_gen no_feed no_audit no_relay no_chart no_explore (inr (inr (inl e))) = no_run (sym e)
+for_compile word words no_frames no_waits no_run no_gen no_feed no_audit no_relay no_chart no_explore (inr (inr (inr (inl e)))) = no_gen (sym e)
+for_compile word words no_frames no_waits no_run no_gen no_feed no_audit no_relay no_chart no_explore (inr (inr (inr (inr (inl e))))) = no_feed (sym e)
+for_compile word words no_frames no_waits no_run no_gen no_feed no_audit no_relay no_chart no_explore (inr (inr (inr (inr (inr (inl e)))))) = no_audit (sym e)
+for_compile word words no_frames no_waits no_run no_gen no_feed no_audit no_relay no_chart no_explore (inr (inr (inr (inr (inr (inr (inl e))))))) = no_relay (sym e)
+for_compile word words no_frames no_waits no_run no_gen no_feed no_audit no_relay no_chart no_explore (inr (inr (inr (inr (inr (inr (inr (inl e)))))))) = no_chart (sym e)
+for_compile word words no_frames no_waits no_run no_gen no_feed no_audit no_relay no_chart no_explore (inr (inr (inr (inr (inr (inr (inr (inr (inl e))))))))) = no_explore (sym e)
+for_compile word words no_frames no_waits no_run no_gen no_feed no_audit no_relay no_chart no_explore (inr (inr (inr (inr (inr (inr (inr (inr (inr none))))))))) = none
 
 pub none_to_compile : {X : Type 0} (f : X → Text) (words : List X) → length words ≡ 0 → IsForCompile (map f words)
 none_to_compile f [] e = tt
@@ -166,3 +173,10 @@ no_chart rest none command said = let e = kind_is (chart_word ∷ rest) command 
 
 pub none_after_chart : (words rest : List Text) → words ≡ chart_word ∷ rest → IsNoChart (chart_word ∷ rest) → IsNoCommand words
 none_after_chart words rest e none = following words rest chart_word e (no_chart rest none)
+
+no_explore : (rest : List Text) → IsNoExplore (explore_word ∷ rest) → IsNoCommand (explore_word ∷ rest)
+no_explore rest none (explore l p c s f) said = none l p c s f said
+no_explore rest none command said = let e = kind_is (explore_word ∷ rest) command said in absurd (omega (arith, e))
+
+pub none_after_explore : (words rest : List Text) → words ≡ explore_word ∷ rest → IsNoExplore (explore_word ∷ rest) → IsNoCommand words
+none_after_explore words rest e none = following words rest explore_word e (no_explore rest none)

@@ -14,7 +14,6 @@ use Rattle.command_words.specs.Run.{AreRunOperands, die_option, limit_option}
 use Rattle.command_words.specs.Relay.{RelayCourse, IsNoRelay, IsRelay, SaysRelay, relay_options, relay_word}
 use Rattle.command_words.specs.RunOptions.{IsDeath, IsLimit}
 use Rattle.command_words.proofs.OneCourse.{one_death, one_limit}
-use Rattle.command_words.proofs.Lookups.{some_none}
 use Rattle.command_words.proofs.Compiled.{Text, found_value, found_words, list_ne, no_letter, one_path, path_ne, same_value, same_words, some_list}
 use Rattle.command_words.proofs.RunFound.{die_ne, limit_letter, limit_ne, same_first, same_second, schedule_letter}
 

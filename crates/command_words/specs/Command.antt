@@ -3,11 +3,13 @@ use Rattle.std.specs.Prelude.{◌≡◌, ℕ, Bool, List, Option, map, option_ma
 use Rattle.command_words.specs.declared.command.Command.{Command}
 use Rattle.command_words.specs.declared.command.Command.TheVariants as commands
 use Rattle.command_words.specs.declared.command.Sources.{Sources}
+use Rattle.command_words.specs.declared.explore.ExploreOptions.{ExploreOptions}
 use Rattle.command_words.specs.declared.feed.FeedOptions.{FeedOptions}
 use Rattle.command_words.specs.declared.relay.RelayOptions.{RelayOptions}
 use Rattle.command_words.specs.declared.run.RunOptions.{RunOptions}
 use Rattle.command_words.specs.Audit.{IsAudit}
 use Rattle.command_words.specs.Compile.{IsCompile}
+use Rattle.command_words.specs.Explore.{ExploreCourse, IsExplore}
 use Rattle.command_words.specs.Feed.{FeedCourse, IsFeed}
 use Rattle.command_words.specs.Frames.{IsFrames}
 use Rattle.command_words.specs.Gen.{IsGen}
@@ -26,6 +28,7 @@ pub data CommandView : Type 0 where
   audit : Option (List ℕ) → List (List ℕ) → ℕ → List ℕ → List ℕ → List ℕ → CommandView
   relay : Option (List ℕ) → List (List ℕ) → RelayCourse → List ℕ → List ℕ → CommandView
   chart : Option (List ℕ) → List (List ℕ) → Course → List ℕ → List ℕ → CommandView
+  explore : Option (List ℕ) → List (List ℕ) → ExploreCourse → List ℕ → List ℕ → CommandView
 
 -- the sync list, the folders and the file that a command names
 abbrev pub list_of : Sources → Option (List ℕ)
@@ -37,7 +40,7 @@ path_of sources = map string_bytes sources.path.items
 abbrev pub file_of : Sources → List ℕ
 file_of sources = string_bytes sources.file
 
--- how a run, a feed and a relay go by their options
+-- how a run, a feed, a relay and an exploration go by their options
 abbrev pub run_course : RunOptions → Course
 run_course options = record { schedule = option_map (λ turns. turns.items) options.schedule; limit = options.limit; death = options.death }
 
@@ -46,6 +49,9 @@ feed_course options = record { side = options.side; limit = options.limit }
 
 abbrev pub relay_course : RelayOptions → RelayCourse
 relay_course options = record { limit = options.limit; death = options.death }
+
+abbrev pub explore_course : ExploreOptions → ExploreCourse
+explore_course options = record { limit = options.limit; ways = options.ways }
 
 -- what a command says
 abbrev pub view_of : Command → CommandView
@@ -58,6 +64,7 @@ view_of (commands.Feed sources options) = feed (list_of sources) (path_of source
 view_of (commands.Audit sources options) = audit (list_of sources) (path_of sources) options.limit (string_bytes options.script) (file_of sources) (string_bytes options.transcript)
 view_of (commands.Relay sources options) = relay (list_of sources) (path_of sources) (relay_course options) (string_bytes options.script) (file_of sources)
 view_of (commands.Chart sources options) = chart (list_of sources) (path_of sources) (run_course options) (string_bytes options.script) (file_of sources)
+view_of (commands.Explore sources options) = explore (list_of sources) (path_of sources) (explore_course options) (string_bytes options.script) (file_of sources)
 
 -- the words say this
 abbrev pub Say : List (List ℕ) → CommandView → Type 0
@@ -70,6 +77,7 @@ Say words (feed list path course script file given) = IsFeed words list path cou
 Say words (audit list path limit script file given) = IsAudit words list path limit script file given
 Say words (relay list path course script file) = IsRelay words list path course script file
 Say words (chart list path course script file) = IsChart words list path course script file
+Say words (explore list path course script file) = IsExplore words list path course script file
 
 -- the words are this command
 abbrev pub CommandOf : List (List ℕ) → Command → Type 0

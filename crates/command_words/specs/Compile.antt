@@ -12,7 +12,7 @@ HasWord (w ∷ ws) word = (w ≡ word) ⊎ HasWord ws word
 
 -- the first words that choose another command
 abbrev pub other_commands : List (List ℕ)
-other_commands = codes "frames" ∷ codes "waits" ∷ codes "run" ∷ codes "gen" ∷ codes "feed" ∷ codes "audit" ∷ codes "relay" ∷ codes "chart" ∷ []
+other_commands = codes "frames" ∷ codes "waits" ∷ codes "run" ∷ codes "gen" ∷ codes "feed" ∷ codes "audit" ∷ codes "relay" ∷ codes "chart" ∷ codes "explore" ∷ []
 
 -- the words choose the compile command: the first of them chooses no other one
 abbrev pub IsForCompile : List (List ℕ) → Type 0

@@ -1,7 +1,7 @@
 -- The command that runs a generated case: `ipdl gen [--actors A] N`.
-use Rattle.std.specs.Prelude.{◌≡◌, ℕ, ◌≤◌, List, [], ◌∷◌, Option, Some, None, codes}
+use Rattle.std.specs.Prelude.{◌≡◌, ℕ, List, [], ◌∷◌, Option, Some, None, codes}
 use Rattle.command_words.specs.Options.{Choice, WordUse, Reads, EachOnce, own_words, value_of}
-use Rattle.command_words.specs.RunOptions.{IsNumber}
+use Rattle.command_words.specs.RunOptions.{IsCount}
 
 -- the first word that chooses the command
 abbrev pub gen_word : List ℕ
@@ -13,12 +13,6 @@ actors_option = record { name = codes "actors"; letter = None }
 
 abbrev pub gen_options : List Choice
 gen_options = actors_option ∷ []
-
--- a number from 1 to the greatest
-pub record IsCount (most : ℕ) (text : List ℕ) (n : ℕ) : Type 0 where
-  pub number : IsNumber text n
-  pub least : 1 ≤ n
-  pub greatest : n ≤ most
 
 -- the number of actors: 4, and with `--actors` any from 1 to 100
 abbrev pub IsActors : Option (List ℕ) → ℕ → Type 0

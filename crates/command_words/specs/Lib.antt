@@ -12,5 +12,6 @@ pub mod Operands
 pub mod Feed
 pub mod Audit
 pub mod Relay
+pub mod Explore
 pub mod Command
 pub mod Listed

@@ -12,6 +12,12 @@ pub record IsNumber (text : List ℕ) (n : ℕ) : Type 0 where
   pub digits : IsNumeral 10 text
   pub value : n ≡ digits_value 10 text
 
+-- a number from 1 to the greatest
+pub record IsCount (most : ℕ) (text : List ℕ) (n : ℕ) : Type 0 where
+  pub number : IsNumber text n
+  pub least : 1 ≤ n
+  pub greatest : n ≤ most
+
 -- the letter of a turn: a capital one, and a small one for a delivery alone
 abbrev pub letter_for : Side → Bool → ℕ
 letter_for Parent false = 80

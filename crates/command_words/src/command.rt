@@ -5,6 +5,7 @@ ghost use Rattle.command_words.specs.Command.{CommandOf, IsNoCommand};
 use crate::WordsFault;
 use crate::audit::{AuditOptions, audit};
 use crate::compile::compile;
+use crate::explore::{ExploreOptions, explore};
 use crate::feed::{FeedOptions, feed};
 use crate::frames::{FramesOptions, frames};
 use crate::generation::generation;
@@ -57,6 +58,8 @@ pub enum Command {
     Relay(Sources, RelayOptions),
     /// Runs a script, and draws the history of both ends.
     Chart(Sources, RunOptions),
+    /// Lists the ways in which a script may go.
+    Explore(Sources, ExploreOptions),
 }
 
 /// Reads words as a command. The name of the program is not among them (docs/command_line.md).
@@ -92,6 +95,9 @@ pub fn read_words(alloc: Global, words: &[String]) -> Result<Command, WordsFault
         }
         if first.as_str() == "chart" {
             return chart(alloc, rest);
+        }
+        if first.as_str() == "explore" {
+            return explore(alloc, rest);
         }
     }
     compile(alloc, words)

@@ -1,11 +1,11 @@
 //! The words of the command that runs a generated case.
-ghost use Rattle.std.specs.Prelude.{◌≡◌, ◌∷◌, ℕ, None, IfErr, IfOk, IfSome, map, option_map, string_bytes};
+ghost use Rattle.std.specs.Prelude.{◌≡◌, ◌∷◌, ℕ, IfErr, IfOk, map, option_map, string_bytes};
 ghost use Rattle.command_words.specs.Command.{CommandOf};
-ghost use Rattle.command_words.specs.Gen.{IsActors, IsCount, IsNoGen, IsRounds, gen_word};
+ghost use Rattle.command_words.specs.Gen.{IsActors, IsNoGen, IsRounds, gen_word};
 
 use crate::WordsFault;
 use crate::command::Command;
-use crate::numbers::number_of;
+use crate::numbers::count_of;
 use crate::options::{Choice, read_options};
 use std::alloc::Global;
 
@@ -23,17 +23,6 @@ const USUAL_ACTORS: u32 = 4;
 
 /// The most actors.
 const MOST_ACTORS: u32 = 100;
-
-/// Returns the number that a text writes, from 1 to `most`, or `None`.
-fn count_of(text: &str, most: u32) -> Option<u32>
-    ensures count { IfSome result (IsCount most text.now) }
-    ensures none { result ≡ None → (n : ℕ) → ¬ IsCount most text.now n }
-{
-    match number_of(text) {
-        Some(n) if n >= 1 && n <= most => Some(n),
-        _ => None,
-    }
-}
 
 /// Returns the number of actors, by the value of `--actors`. The fault is `Usage` if the value is not from 1 to 100.
 fn actors_of(text: Option<&str>) -> Result<u32, WordsFault>

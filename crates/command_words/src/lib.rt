@@ -6,6 +6,7 @@ mod audit;
 mod command;
 mod compile;
 mod courses;
+mod explore;
 mod fault;
 mod feed;
 mod files;
@@ -23,6 +24,7 @@ mod waits;
 
 pub use audit::AuditOptions;
 pub use command::{Command, Sources, read_words};
+pub use explore::ExploreOptions;
 pub use fault::WordsFault;
 pub use feed::FeedOptions;
 pub use frames::FramesOptions;

@@ -62,6 +62,11 @@ pub fn push_three(log: &mut String, numbers: [Option<i32>; 3]) -> Result<(), All
     push_number(log, third)
 }
 
+/// Appends two words, with a blank after each.
+pub fn push_two(log: &mut String, first: &str, second: &str) -> Result<(), AllocError> {
+    write!(log, "{first} {second} ")
+}
+
 /// Returns the word for a refusal, or `none`.
 pub fn refusal_text(refusal: Option<SendRefusal>) -> &'static str {
     match refusal {

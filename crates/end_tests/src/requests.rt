@@ -3,7 +3,7 @@ ghost use Rattle.ipdl_base.specs.Sound.{IsSound};
 ghost use Rattle.end_parts.specs.CopiedAnswers.{IsCopied};
 ghost use Rattle.std.specs.Prelude.{IfOk};
 
-use super::checks::{answer_text, check, push_number, refusal_text, what_text};
+use super::checks::{answer_text, check, push_number, push_two, refusal_text, what_text};
 use super::parts::{SchemaCase, told_of_schema};
 use super::schemas::{ASK, CALL, TOP, insert_kid};
 use actor_tree::Tree;
@@ -34,10 +34,13 @@ fn one_actor(alloc: Global, id: i32) -> Result<Values, AllocError> {
     ))
 }
 
-/// Returns the line of a request.
-fn line_of(alloc: Global, scene: Scene, message: &Message) -> Result<What, AllocError> {
+/// Returns the kind of the line of a request.
+fn line_text(alloc: Global, scene: Scene, message: &Message) -> Result<&'static str, AllocError> {
     let message = message.copy(alloc)?;
-    Ok(send_line(scene.row, message))
+    let line = send_line(scene.row, message);
+    let text = what_text(&line);
+    drop(line);
+    Ok(text)
 }
 
 /// Appends which actor of a request is wrong, why ends that are closed and open refuse to send it, and
@@ -59,7 +62,9 @@ fn push_refusals(
     push_number(log, wrong_actor(schema, tree, row, message))?;
     let closed = refusal_text(send_refusal(false, schema, tree, stack, row, message.route, values));
     let open = refusal_text(send_refusal(true, schema, tree, stack, row, message.route, values));
-    write!(log, " {closed} {open} {}", message.seq)
+    log.push(' ')?;
+    push_two(log, closed, open)?;
+    write!(log, "{}", message.seq)
 }
 
 /// Appends what the refusals of a request are, and the kind of its line.
@@ -73,10 +78,8 @@ fn push_sent(
     requires { IsSound scene.schema.now }
 {
     push_refusals(log, scene, message, values)?;
-    let line = line_of(alloc, scene, message)?;
-    let done = writeln!(log, " {}", what_text(&line));
-    drop(line);
-    done
+    let line = line_text(alloc, scene, message)?;
+    writeln!(log, " {line}")
 }
 
 /// The same of the next request to an actor with these values.
@@ -125,7 +128,9 @@ fn push_answer_refusals(log: &mut String, scene: Scene, reply: &Message) -> Resu
     let none = refusal_text(answer_refusal(true, schema, tree, row, None));
     let closed = refusal_text(answer_refusal(false, schema, tree, row, Some(reply)));
     let open = refusal_text(answer_refusal(true, schema, tree, row, Some(reply)));
-    writeln!(log, "{} {none} {closed} {open}", reply.number)
+    write!(log, "{} ", reply.number)?;
+    push_two(log, none, closed)?;
+    writeln!(log, "{open}")
 }
 
 /// Appends what the refusals of an answer with an actor are.
@@ -179,7 +184,7 @@ fn push_resumed(
     answer: &Answer,
     line: &What,
 ) -> Result<(), AllocError> {
-    write!(log, "{} {} ", answer_text(answer), what_text(line))?;
+    push_two(log, answer_text(answer), what_text(line))?;
     push_number(log, dead_in(scene, answer))?;
     log.push('\n')
 }

@@ -4,7 +4,8 @@ use Rattle.std.specs.Prelude.{Option, Some, None}
 use Rattle.ipdl_base.specs.Outside.{FileMap}
 use Rattle.ipdl_base.specs.declared.files.TheConstants.{MOST_BYTES}
 use Rattle.transcripts.specs.Compared.{most_text_bytes}
-use Rattle.command_words.specs.Command.{CommandView, IsNoCommand, audit, chart, compile, feed, frames, gen, relay, run, waits}
+use Rattle.command_words.specs.Command.{CommandView, IsNoCommand, audit, chart, compile, explore, feed, frames, gen, relay, run, waits}
+use Rattle.command_words.specs.Explore.{ExploreCourse}
 use Rattle.command_words.specs.Feed.{FeedCourse}
 use Rattle.command_words.specs.Relay.{RelayCourse}
 use Rattle.command_words.specs.Run.{Course}
@@ -23,6 +24,7 @@ use Rattle.ipdl_top.specs.declared.audit.outcome.Audit.{Audit}
 use Rattle.ipdl_top.specs.declared.audit.outcome.Audit.TheVariants as audits
 use Rattle.ipdl_top.specs.Audit.{SaysAudit, SaysAudited, SaysAuditedOf, audit_answer}
 use Rattle.ipdl_top.specs.Ended.{ended_answer}
+use Rattle.ipdl_top.specs.Explore.{SaysExplore, SaysExplored, explore_status}
 use Rattle.ipdl_top.specs.Feed.{SaysFed, SaysFedOf, SaysFeed, feed_answer}
 use Rattle.ipdl_top.specs.Frames.{SaysBytes, SaysFrames, frames_answer, frames_out}
 use Rattle.ipdl_top.specs.FileViews.{FileViews, ForMap, steady}
@@ -141,6 +143,16 @@ of_relayed Relays course schema script answer told = said_so _ _ told.says (of_e
 of_relay : (Relays : Relaying) (course : RelayCourse) (name : List ℕ) (held : Option (List ℕ)) (file : List ℕ) (schema : Schema) (answer : CommandAnswer) → SaysRelay Relays course name held file schema answer → IsSaidSo answer
 of_relay Relays course name held file schema answer told = of_held (SaysRelayed Relays course schema) (of_relayed Relays course schema) name held schema told.top answer told.says
 
+of_ways : (whole : Bool) → is_said (explore_status whole) ≡ true
+of_ways true = refl
+of_ways false = refl
+
+of_explored : (course : ExploreCourse) (schema : Schema) (script : Script) (answer : CommandAnswer) → SaysExplored course schema script answer → IsSaidSo answer
+of_explored course schema script answer told = said_so _ _ told.says (of_ways told.exploration.whole)
+
+of_explore : (course : ExploreCourse) (name : List ℕ) (held : Option (List ℕ)) (file : List ℕ) (schema : Schema) (answer : CommandAnswer) → SaysExplore course name held file schema answer → IsSaidSo answer
+of_explore course name held file schema answer told = of_held (SaysExplored course schema) (of_explored course schema) name held schema told.top answer told.says
+
 -- and so is that of a compilation
 compiled : (Says : Schema → CommandAnswer → Type 0) → ((schema : Schema) (answer : CommandAnswer) → Says schema answer → IsSaidSo answer)
     → (given : LoadInput) (lists : FileMap) (list : Option (List ℕ)) (answer : CommandAnswer) → IsCompilation Says given lists list answer → IsSaidSo answer
@@ -158,6 +170,7 @@ of_says Gives Relays seen (feed list path course script file name) = of_feed cou
 of_says Gives Relays seen (audit list path limit script file name) = of_audit limit script (seen.script script) name (seen.input name) file
 of_says Gives Relays seen (relay list path course script file) = of_relay Relays course script (seen.script script) file
 of_says Gives Relays seen (chart list path course script file) = of_run Gives Chart course script (seen.script script) file
+of_says Gives Relays seen (explore list path course script file) = of_explore course script (seen.script script) file
 
 of_command : (Gives : Driving) (Relays : Relaying) (seen : FileViews) (command : CommandView) (answer : CommandAnswer) → AnswersTo Gives Relays seen command answer → IsSaidSo answer
 of_command Gives Relays seen command answer h =

@@ -40,6 +40,7 @@ use Rattle.ipdl_top.specs.CommandAnswer.{IsBrokenFile, BreaksRules, IsFileReport
 use Rattle.ipdl_top.specs.CommandFiles.{files_by, given_by, names_read, seen_by}
 use Rattle.ipdl_top.specs.declared.status.Status.TheVariants.{BadFrames, Broken, Spent}
 use Rattle.ipdl_top.specs.Audit.{SaysAudit}
+use Rattle.ipdl_top.specs.Explore.{SaysExplore}
 use Rattle.ipdl_top.specs.Feed.{SaysFeed}
 use Rattle.ipdl_top.specs.Frames.{SaysBytes, SaysFrames, frames_answer, frames_out}
 use Rattle.ipdl_top.specs.Laws.{LeavesNothing, OneAnswer}
@@ -56,6 +57,7 @@ use Rattle.ipdl_top.proofs.Alike.{alike, same_keys}
 use Rattle.ipdl_top.proofs.Compilations.{names_called, no_fault}
 use Rattle.ipdl_top.proofs.TableTexts.{one_text}
 use Rattle.ipdl_top.proofs.OneAudit.{AuditLaws, audit_one}
+use Rattle.ipdl_top.proofs.OneExploration.{ExploreLaws, explore_one}
 use Rattle.ipdl_top.proofs.OneFeed.{FeedLaws, feed_one}
 use Rattle.ipdl_top.proofs.OneFile.{file_one}
 use Rattle.ipdl_top.proofs.OneReport.{told_alike}
@@ -82,6 +84,7 @@ pub record TheLaws : Type 0 where
   pub feeds : FeedLaws
   pub audits : AuditLaws
   pub relays : RelayLaws
+  pub explorations : ExploreLaws
 
 -- Lists
 
@@ -244,6 +247,7 @@ leaves_none words (command.feed list path course script file name) one said leav
 leaves_none words (command.audit list path limit script file name) one said leaves = tt
 leaves_none words (command.relay list path course script file) one said leaves = leaves.1 list path course script file said
 leaves_none words (command.chart list path course script file) one said leaves = leaves.2 list path course script file said
+leaves_none words (command.explore list path course script file) one said leaves = tt
 
 -- a command says one thing of a schema, if it leaves the answer to no driver
 of_any : (Says : Schema → CommandAnswer → Type 0) → SaysOne Says → SaysOneSuch IsAny Says
@@ -262,6 +266,8 @@ says_one laws Gives Relays seen (command.audit list path limit script file name)
     of_any (SaysAudit limit script (seen.script script) name (seen.input name) file) (audit_one laws.audits limit script (seen.script script) name (seen.input name) file)
 says_one laws Gives Relays seen (command.relay list path course script file) = relay_one laws.relays Relays course script (seen.script script) file
 says_one laws Gives Relays seen (command.chart list path course script file) = λ a b same one other leaves. run_one laws.runs Gives Chart course leaves script (seen.script script) file a b same one other
+says_one laws Gives Relays seen (command.explore list path course script file) =
+    of_any (SaysExplore course script (seen.script script) file) (explore_one laws.explorations course script (seen.script script) file)
 
 -- so has each command
 commands : TheLaws → (Gives : Driving) (Relays : Relaying) (seen : FileViews) (command : CommandView) (one other : CommandAnswer) → LeavesNone command one → AnswersTo Gives Relays seen command one → AnswersTo Gives Relays seen command other → one ≡ other

@@ -1,6 +1,6 @@
 -- What a command answers, by what was found of the files that it reads.
 use Rattle.std.proofs.Common.{List, ℕ, [], ◌∷◌, codes, refl}
-use Rattle.command_words.specs.Command.{CommandView, Say, audit, chart, compile, feed, frames, gen, relay, run, waits}
+use Rattle.command_words.specs.Command.{CommandView, Say, audit, chart, compile, explore, feed, frames, gen, relay, run, waits}
 use Rattle.ipdl_top.specs.CommandAnswer.{AnswersTo, SaysOf}
 use Rattle.ipdl_top.specs.FileViews.{FileViews}
 use Rattle.std.specs.Prelude.{None}
@@ -29,6 +29,7 @@ HasOwnTop (feed list path course script file name) checked = HasTop file checked
 HasOwnTop (audit list path limit script file name) checked = HasTop file checked
 HasOwnTop (relay list path course script file) checked = HasTop file checked
 HasOwnTop (chart list path course script file) checked = HasTop file checked
+HasOwnTop (explore list path course script file) checked = HasTop file checked
 
 -- so it is where words say the command
 pub own_top : (command : CommandView) (words : List (List ℕ)) (seen : FileViews) (found : FoundFiles) → Say words command → AreFound (files_by command) seen found → HasOwnTop command found.checked
@@ -48,6 +49,8 @@ own_top (relay list path course script file) [] seen found said are = absurd sai
 own_top (relay list path course script file) (word ∷ words) seen found said are = has_top (given_by seen.files path (file ∷ [])) seen.list list file said.1.operands.front refl said.1.operands.ending found.checked are.checked
 own_top (chart list path course script file) [] seen found said are = absurd said
 own_top (chart list path course script file) (word ∷ words) seen found said are = has_top (given_by seen.files path (file ∷ [])) seen.list list file said.1.operands.front refl said.1.operands.ending found.checked are.checked
+own_top (explore list path course script file) [] seen found said are = absurd said
+own_top (explore list path course script file) (word ∷ words) seen found said are = has_top (given_by seen.files path (file ∷ [])) seen.list list file said.1.operands.front refl said.1.operands.ending found.checked are.checked
 
 -- Answers
 

@@ -20,6 +20,7 @@ pub mod OneRun
 pub mod OneFeed
 pub mod OneRelay
 pub mod OneAudit
+pub mod OneExploration
 pub mod Scripted
 pub mod Feeds
 pub mod Summed

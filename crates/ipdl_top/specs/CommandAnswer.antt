@@ -6,7 +6,7 @@ use Rattle.ipdl_base.specs.declared.finding.Report.{Report}
 use Rattle.ipdl_base.specs.declared.schema.Schema.{Schema}
 use Rattle.ipdl_syntax.specs.declared.program.Entry.{Entry}
 use Rattle.ipdl_syntax.specs.Programs.{IsProgram}
-use Rattle.command_words.specs.Command.{CommandView, IsNoCommand, Say, audit, chart, compile, feed, frames, gen, relay, run, waits}
+use Rattle.command_words.specs.Command.{CommandView, IsNoCommand, Say, audit, chart, compile, explore, feed, frames, gen, relay, run, waits}
 use Rattle.findings.specs.Report.{IsReport}
 use Rattle.include_graph.specs.Load.{IsProgramOf}
 use Rattle.include_graph.specs.Reach.{IsReach}
@@ -24,6 +24,7 @@ use Rattle.ipdl_top.specs.declared.status.Status.TheVariants.{Done, Broken, Usag
 use Rattle.ipdl_top.specs.Audit.{SaysAudit}
 use Rattle.ipdl_top.specs.Command.{usage_text}
 use Rattle.ipdl_top.specs.CommandFiles.{NamedView, files_by, given_by, names_read, seen_by}
+use Rattle.ipdl_top.specs.Explore.{SaysExplore}
 use Rattle.ipdl_top.specs.Feed.{SaysFeed}
 use Rattle.ipdl_top.specs.Frames.{SaysFrames}
 use Rattle.ipdl_top.specs.Gen.{SaysGen}
@@ -114,6 +115,7 @@ SaysOf Gives Relays seen (feed list path course script file name) = SaysFeed cou
 SaysOf Gives Relays seen (audit list path limit script file name) = SaysAudit limit script (seen.script script) name (seen.input name) file
 SaysOf Gives Relays seen (relay list path course script file) = SaysRelay Relays course script (seen.script script) file
 SaysOf Gives Relays seen (chart list path course script file) = SaysRun Gives Chart course script (seen.script script) file
+SaysOf Gives Relays seen (explore list path course script file) = SaysExplore course script (seen.script script) file
 
 -- the answer of a command by files of these names, of which this is seen
 abbrev pub IsAnswerBy : (Schema → CommandAnswer → Type 0) → NamedView → FileViews → CommandAnswer → Type 0

@@ -2,7 +2,7 @@
 use Rattle.std.specs.Prelude.{ℕ, List, [], ◌∷◌, Option, Some, None}
 use Rattle.ipdl_base.specs.declared.files.TheConstants.{MOST_BYTES}
 use Rattle.ipdl_base.specs.Outside.{FileMap}
-use Rattle.command_words.specs.Command.{CommandView, audit, chart, compile, feed, frames, gen, relay, run, waits}
+use Rattle.command_words.specs.Command.{CommandView, audit, chart, compile, explore, feed, frames, gen, relay, run, waits}
 use Rattle.include_graph.specs.Sources.{LoadInput}
 use Rattle.transcripts.specs.Compared.{most_text_bytes}
 use Rattle.ipdl_top.specs.FileViews.{FileViews, steady}
@@ -39,6 +39,7 @@ files_by (audit list path limit script file name) =
     named (record (program_named list path (file ∷ [])) { script = Some script; input = Some name; input_limit = most_text_bytes })
 files_by (relay list path course script file) = named (record (program_named list path (file ∷ [])) { script = Some script })
 files_by (chart list path course script file) = named (record (program_named list path (file ∷ [])) { script = Some script })
+files_by (explore list path course script file) = named (record (program_named list path (file ∷ [])) { script = Some script })
 
 -- the names of the files of a generated case
 abbrev pub case_named : NamedView

@@ -11,6 +11,7 @@ pub mod Run
 pub mod RunSteps
 pub mod Gen
 pub mod Feed
+pub mod Explore
 pub mod Command
 pub mod Laws
 pub mod Lists

@@ -8,7 +8,7 @@ use std::alloc::{AllocError, Global};
 
 /// How the program is called.
 const USAGE: &[u8] =
-    b"usage: ipdl [-s LIST] [--path DIRS] FILES\n       ipdl run [-s LIST] [--path DIRS] [--schedule WORD] [--limit N] [--die SIDE:K] SCRIPT FILE\n       ipdl frames [-s LIST] [--path DIRS] [--to 2] FILE FRAMES\n       ipdl waits [-s LIST] [--path DIRS] FILE\n       ipdl gen [--actors A] N\n       ipdl feed [-s LIST] [--path DIRS] [--limit N] --side SIDE SCRIPT FILE FRAMES\n       ipdl audit [-s LIST] [--path DIRS] [--limit N] SCRIPT FILE TRANSCRIPT\n       ipdl relay [-s LIST] [--path DIRS] [--die SIDE:K] [--limit N] SCRIPT FILE\n       ipdl chart [-s LIST] [--path DIRS] [--schedule WORD] [--limit N] [--die SIDE:K] SCRIPT FILE\n";
+    b"usage: ipdl [-s LIST] [--path DIRS] FILES\n       ipdl run [-s LIST] [--path DIRS] [--schedule WORD] [--limit N] [--die SIDE:K] SCRIPT FILE\n       ipdl frames [-s LIST] [--path DIRS] [--to 2] FILE FRAMES\n       ipdl waits [-s LIST] [--path DIRS] FILE\n       ipdl gen [--actors A] N\n       ipdl feed [-s LIST] [--path DIRS] [--limit N] --side SIDE SCRIPT FILE FRAMES\n       ipdl audit [-s LIST] [--path DIRS] [--limit N] SCRIPT FILE TRANSCRIPT\n       ipdl relay [-s LIST] [--path DIRS] [--die SIDE:K] [--limit N] SCRIPT FILE\n       ipdl chart [-s LIST] [--path DIRS] [--schedule WORD] [--limit N] [--die SIDE:K] SCRIPT FILE\n       ipdl explore [-s LIST] [--path DIRS] [--limit N] [--ways M] SCRIPT FILE\n";
 
 /// What the program answers: how it ends, and the texts that it writes.
 #[derive(Debug, Drop)]

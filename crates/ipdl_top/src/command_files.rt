@@ -97,5 +97,9 @@ pub fn files_of_command(command: &Command) -> CommandFiles<'_>
             script: Some(options.script.as_str()),
             ..sources_of(sources)
         }),
+        Command::Explore(sources, options) => CommandFiles::Named(NamedFiles {
+            script: Some(options.script.as_str()),
+            ..sources_of(sources)
+        }),
     }
 }

@@ -9,6 +9,7 @@ ghost use Rattle.ipdl_top.specs.FilesFound.{AreFound};
 use crate::answer::CommandAnswer;
 use crate::audit::answer_audit;
 use crate::compile::answer_compile;
+use crate::explore::answer_explore;
 use crate::feed::answer_feed;
 use crate::frames::answer_frames;
 use crate::generation::case_request;
@@ -86,6 +87,9 @@ pub fn answer_command<D: Driver, Q: Relay>(
         Command::Chart(sources, options) => {
             let request = run_request(sources, options, Rendering::Chart);
             answer_run(alloc, checked, &request, &script, driver)
+        }
+        Command::Explore(sources, options) => {
+            answer_explore(alloc, checked, sources.file.as_str(), options, &script)
         }
     }
 }

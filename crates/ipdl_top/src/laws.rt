@@ -3,14 +3,15 @@ ghost use Rattle.ipdl_top.specs.Laws.{OneAnswer};
 
 use answer_laws::{break_alike, listed_alike, schemas_alike};
 use command_words::one_command;
+use exploration_laws::explorations_are_one;
 use feed_runs::feeds_have_one_result;
 use grammar_laws::one_tree;
 use ipdl_lex::one_answer;
 use program_schema::one_schema;
 use relay_history::relays_have_one_result;
 use schema_laws::{
-    choices_alike, feeds_alike, frames_alike, one_list_of_frames, one_wait_report, picks_alike,
-    relays_alike, scripts_alike, texts_alike, waits_alike,
+    choices_alike, explorations_alike, feeds_alike, frames_alike, one_list_of_frames,
+    one_wait_report, picks_alike, relays_alike, scripts_alike, texts_alike, waits_alike,
 };
 use script_steps::words_have_one_result;
 use sync_list::one_list;
@@ -47,4 +48,6 @@ pub fn answer_is_determined<D: Driver, Q: Relay>(driver: &D, relay: &Q)
     choices_alike();
     relays_alike();
     relays_have_one_result();
+    explorations_alike();
+    explorations_are_one();
 }

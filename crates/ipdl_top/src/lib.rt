@@ -9,6 +9,7 @@ mod commands;
 mod compile;
 mod ending;
 mod exit;
+mod explore;
 mod feed;
 mod frames;
 mod generation;

@@ -24,7 +24,7 @@ module _ (a b : Setting) (alike : AreSettingsAlike a b) where
   played_alike [] state = refl
   played_alike (choice ∷ more) state = λ i. option_and_then (λ (next : RunState). played_alike more next i) (chosen_alike choice state i)
 
-  quiet_alike : (state : RunState) (side : Side) → is_quiet_at a state side ≡ is_quiet_at b state side
+  pub quiet_alike : (state : RunState) (side : Side) → is_quiet_at a state side ≡ is_quiet_at b state side
   quiet_alike state side = λ i. not (is_some (events_alike a b alike side state i)) && not (may_deliver side state.world)
 
 pub choices_alike : ChoicesAlike

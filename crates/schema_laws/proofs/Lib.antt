@@ -30,3 +30,4 @@ mod FitsAlike
 mod BlocksAlike
 mod BrokenAlike
 pub mod ScriptsAlike
+pub mod ExplorationsAlike

@@ -45,7 +45,7 @@ module _ (a b : Setting) (alike : AreSettingsAlike a b) where
   by_alike side state None = refl
   by_alike side state (Some choice) = λ i. if within_alike side state i then leads (led_alike choice state i) else exceeds
 
-  outcome_alike : (turn : Turn) (state : RunState) → outcome a turn state ≡ outcome b turn state
+  pub outcome_alike : (turn : Turn) (state : RunState) → outcome a turn state ≡ outcome b turn state
   outcome_alike turn state = (λ i. outcome_by a turn.side state (choice_alike turn state i)) ∙ by_alike turn.side state (turn_choice b turn state)
 
   -- What words of turns do

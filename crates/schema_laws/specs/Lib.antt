@@ -3,3 +3,4 @@ pub mod Waits
 pub mod Runs
 pub mod Feeds
 pub mod Relays
+pub mod Explorations

@@ -40,9 +40,9 @@ told-few (line ∷ lines) =
 
 -- A side that has something to do has a choice
 
-record Wants (setting : Setting) (state : RunState) (side : Side) : Type 0 where
-  choice : Choice
-  chooses : turn_choice setting (whole_turn side) state ≡ Some choice
+pub record Wants (setting : Setting) (state : RunState) (side : Side) : Type 0 where
+  pub choice : Choice
+  pub chooses : turn_choice setting (whole_turn side) state ≡ Some choice
 
 wants-by : (setting : Setting) (state : RunState) (side : Side) (own may : Bool) → is_some (own_event setting side state) ≡ own → may_deliver side state.world ≡ may → (not own && not may) ≡ false → Wants setting state side
 wants-by setting state side true may is can h = record {
@@ -57,7 +57,7 @@ wants-by setting state side false true is can h = record {
 }
 wants-by setting state side false false is can h = cc
 
-wants : (setting : Setting) (state : RunState) (side : Side) → is_quiet_at setting state side ≡ false → Wants setting state side
+pub wants : (setting : Setting) (state : RunState) (side : Side) → is_quiet_at setting state side ≡ false → Wants setting state side
 wants setting state side h = wants-by setting state side (is_some (own_event setting side state)) (may_deliver side state.world) refl refl h
 
 busy-side : (setting : Setting) (state : RunState) → is_quiet setting state ≡ false → (side : Side) × (is_quiet_at setting state side ≡ false)
@@ -70,11 +70,11 @@ busy-side setting state h = by (is_quiet_at setting state sides.Parent) refl h
 -- A number of choices that no run has
 
 -- a number above that of the choices of any run
-abbrev too_many : Setting → ℕ
+abbrev pub too_many : Setting → ℕ
 too_many setting = 10 * setting.limit + 3
 
 module _ (setting : Setting) (sound : IsSound setting.schema) (valid : IsValid setting.schema setting.script) (limit : HasLimit setting) where
-  few-choices : (choices : List Choice) (state : RunState) → played setting choices (beginning_of setting) ≡ Some state → length choices < too_many setting
+  pub few-choices : (choices : List Choice) (state : RunState) → played setting choices (beginning_of setting) ≡ Some state → length choices < too_many setting
   few-choices choices state plays =
       let room : (side : Side) → HasRoom setting state side = cases_have_room setting choices state sound plays in
       let parent = (room sides.Parent).lines in

@@ -22,6 +22,7 @@ mod SideChoices
 mod OwnRuns
 pub mod SplitHalves
 mod Meetings
+mod Optioning
 mod Apart
 pub mod KeptEnds
 pub mod KeptHalves

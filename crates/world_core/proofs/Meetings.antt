@@ -236,7 +236,7 @@ module _ (setting : Setting) (side : Side) (half : HalfView) (link : LinkView) (
 -- Deliveries, one after another
 
 -- a packet waits for a half where its side may have one delivered
-waits-is : (at : WorldView) (side : Side) (half : HalfView) (link : LinkView) → StandsIn at side half link → is_waited_for side half link ≡ may_deliver side at.state.world
+pub waits-is : (at : WorldView) (side : Side) (half : HalfView) (link : LinkView) → StandsIn at side half link → is_waited_for side half link ≡ may_deliver side at.state.world
 waits-is at side half link stands =
     ap (λ (end : End). is_open end.state && is_some (first_of (packets_to side link))) stands.half_is.end
     ∙ ap (λ (ps : List Packet). is_open (end_of side at.state.world).state && is_some (first_of ps)) (link-of at.setting at.state link stands.run side).packets

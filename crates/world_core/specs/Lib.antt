@@ -10,6 +10,7 @@ pub mod WorldView
 pub mod Worlds
 pub mod Turns
 pub mod SideTurns
+pub mod Options
 pub mod TakeSteps
 pub mod Halves
 pub mod FeedLaws

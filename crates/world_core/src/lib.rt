@@ -25,4 +25,5 @@ pub use laws::{
 pub use link::Link;
 pub use relay::{Halves, Relay, take_turns, turn_answer};
 pub use schedules::{Stop, Turn};
+pub use side_turns::SideOptions;
 pub use world::{Replay, World};

@@ -5,6 +5,7 @@ ghost use Rattle.value_codec.specs.Laws.{AreBytes};
 ghost use Rattle.channel_model.specs.Outputs.{is_open};
 ghost use Rattle.handler_script.specs.ScriptOf.{first_of};
 ghost use Rattle.world_core.specs.LinkView.{HoldsBytes, packets_to};
+ghost use Rattle.world_core.specs.Options.{AreOptionsAt};
 ghost use Rattle.world_core.specs.SideTurns.{DeliveryPlays, FirstGives, MayHave, OwnPlays, StandsIn, TurnPlays};
 ghost use Rattle.world_core.specs.WorldView.{WorldView};
 
@@ -14,6 +15,32 @@ use crate::link::Link;
 use channel_core::Packet;
 use ipdl_base::Side;
 use schedules::Turn;
+
+/// What a side may do at a state of a run.
+#[derive(Clone, Copy, Debug, PartialEq, Eq)]
+pub struct SideOptions {
+    /// Whether the side has a step of its own.
+    pub acts: bool,
+    /// Whether the side may have a packet delivered.
+    pub receives: bool,
+    /// Whether the side has reached its limit of events.
+    pub spent: bool,
+}
+
+/// Returns what a side may do.
+pub(crate) fn options_of(half: &Half<'_>, link: &Link, side: Side) -> SideOptions
+    ghost at: { WorldView × EndSide }
+    requires stands { StandsIn at.0 at.1 half.now link.now }
+    requires side { side ≡ at.1 }
+    ensures { AreOptionsAt at.0 at.1 result }
+{
+    let step = half.next_step();
+    SideOptions {
+        acts: step.is_some(),
+        receives: may_deliver(half, link, side),
+        spent: half.is_spent(),
+    }
+}
 
 /// Makes a turn of a side.
 pub(crate) fn turn_of(half: &mut Half<'_>, link: &mut Link, turn: Turn) -> StepAnswer

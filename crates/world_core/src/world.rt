@@ -8,6 +8,7 @@ ghost use Rattle.ipdl_base.specs.Sound.{IsSound};
 ghost use Rattle.world_core.specs.Worlds.{IsOpening, IsOpeningLink};
 
 mod halves;
+mod options;
 mod replay;
 
 pub use self::replay::Replay;

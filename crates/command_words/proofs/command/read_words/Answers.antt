@@ -2,6 +2,7 @@ use Rattle.std.proofs.Common.{◌≡◌, ◌≢◌, ◌∙◌, map, string_bytes
 use Rattle.std.specs.Str.{bytes_eq}
 use Rattle.command_words.specs.Audit.{audit_word}
 use Rattle.command_words.specs.Compile.{IsForCompile}
+use Rattle.command_words.specs.Explore.{explore_word}
 use Rattle.command_words.specs.Feed.{feed_word}
 use Rattle.command_words.specs.Frames.{frames_word}
 use Rattle.command_words.specs.Gen.{gen_word}
@@ -10,9 +11,9 @@ use Rattle.command_words.specs.Run.{chart_word, run_word}
 use Rattle.command_words.specs.Waits.{waits_word}
 use Rattle.command_words.proofs.Comparisons.{same_text, text_is}
 use Rattle.command_words.proofs.Errors.{weaker}
-use Rattle.command_words.proofs.OneCommand.{none_after_audit, none_after_chart, none_after_feed, none_after_frames, none_after_gen, none_after_relay, none_after_run, none_after_waits, none_for_compile, none_to_compile, for_compile}
+use Rattle.command_words.proofs.OneCommand.{none_after_audit, none_after_chart, none_after_explore, none_after_feed, none_after_frames, none_after_gen, none_after_relay, none_after_run, none_after_waits, none_for_compile, none_to_compile, for_compile}
 use Rattle.command_words.proofs.command.read_words.Goals as goal
-use Rattle.command_words.proofs.command.read_words.Goals.{in-Some+else-eq+else-eq-2+else-eq-3+else-eq-4+else-eq-5+else-eq-6+else-eq-7+else-eq-8, in_default}
+use Rattle.command_words.proofs.command.read_words.Goals.{in-Some+else-eq+else-eq-2+else-eq-3+else-eq-4+else-eq-5+else-eq-6+else-eq-7+else-eq-8+else-eq-9, in_default}
 
 pub returns-then-eq-clause-usage : goal.returns-then-eq-clause-usage
 returns-then-eq-clause-usage c =
@@ -70,13 +71,20 @@ returns-then-eq-8-clause-usage c =
     ap (map string_bytes) c.in-Some.ensures.cases.0 ∙ ap (λ (w : List ℕ). w ∷ map string_bytes c.in-Some.rest.now) first in
     weaker c.chart.result _ _ c.chart.ensures.usage (λ fault none usage. none_after_chart _ _ words (none usage))
 
+pub returns-then-eq-9-clause-usage : goal.returns-then-eq-9-clause-usage
+returns-then-eq-9-clause-usage c =
+    let first : string_bytes c.in-Some.first.now ≡ explore_word = sym c.as_str-in-Some-8.ensures.value ∙ text_is c.as_str-in-Some-8.result.now explore_word (sym c.eq-in-Some-8.ensures ∙ c.if-eq-9.true) in
+    let words : map string_bytes c.args.words.now ≡ explore_word ∷ map string_bytes c.in-Some.rest.now =
+    ap (map string_bytes) c.in-Some.ensures.cases.0 ∙ ap (λ (w : List ℕ). w ∷ map string_bytes c.in-Some.rest.now) first in
+    weaker c.explore.result _ _ c.explore.ensures.usage (λ fault none usage. none_after_explore _ _ words (none usage))
+
 -- a word that is not another
 other_word : (word first other : List ℕ) (test : Bool) → first ≡ word → test ≡ bytes_eq first other → test ≡ false → word ≢ other
 other_word word first other test is tests fails e = true≢false (sym (same_text other) ∙ ap (λ (t : List ℕ). bytes_eq t other) (sym (is ∙ e)) ∙ sym tests ∙ fails)
 
 pub returns-clause-usage : goal.returns-clause-usage
 returns-clause-usage c = elim c.match-split_first.branch [
-  | in-Some+else-eq+else-eq-2+else-eq-3+else-eq-4+else-eq-5+else-eq-6+else-eq-7+else-eq-8 w ↦
+  | in-Some+else-eq+else-eq-2+else-eq-3+else-eq-4+else-eq-5+else-eq-6+else-eq-7+else-eq-8+else-eq-9 w ↦
       let first = string_bytes w.in-Some.first.now in
       let chosen : IsForCompile (map string_bytes c.args.words.now) =
       subst IsForCompile (sym (ap (map string_bytes) w.in-Some.ensures.cases.0))
@@ -88,7 +96,8 @@ returns-clause-usage c = elim c.match-split_first.branch [
       (other_word first w.as_str-in-Some-4.result.now feed_word _ w.as_str-in-Some-4.ensures.value w.eq-in-Some-4.ensures w.if-eq-5.false)
       (other_word first w.as_str-in-Some-5.result.now audit_word _ w.as_str-in-Some-5.ensures.value w.eq-in-Some-5.ensures w.if-eq-6.false)
       (other_word first w.as_str-in-Some-6.result.now relay_word _ w.as_str-in-Some-6.ensures.value w.eq-in-Some-6.ensures w.if-eq-7.false)
-      (other_word first w.as_str-in-Some-7.result.now chart_word _ w.as_str-in-Some-7.ensures.value w.eq-in-Some-7.ensures w.if-eq-8.false)) in
+      (other_word first w.as_str-in-Some-7.result.now chart_word _ w.as_str-in-Some-7.ensures.value w.eq-in-Some-7.ensures w.if-eq-8.false)
+      (other_word first w.as_str-in-Some-8.result.now explore_word _ w.as_str-in-Some-8.ensures.value w.eq-in-Some-8.ensures w.if-eq-9.false)) in
       weaker c.compile.result _ _ c.compile.ensures.usage (λ fault none usage. none_for_compile _ chosen (none usage))
   | in_default w ↦ weaker c.compile.result _ _ c.compile.ensures.usage (λ fault none usage. none_for_compile _ (none_to_compile string_bytes c.args.words.now w.in_default.ensures.cases) (none usage))
 ]

@@ -1,9 +1,10 @@
 use Rattle.std.proofs.Common.{List, ℕ, string_bytes, sym, subst}
 use Rattle.std.proofs.lemmas.Result.{IfOk-weaker}
-use Rattle.command_words.specs.Command.{feed_course, relay_course, run_course, view_of}
+use Rattle.command_words.specs.Command.{explore_course, feed_course, relay_course, run_course, view_of}
 use Rattle.command_words.specs.Run.{Course}
 use Rattle.command_words.specs.declared.command.Command.{Command}
 use Rattle.ipdl_top.specs.Audit.{SaysAudit}
+use Rattle.ipdl_top.specs.Explore.{SaysExplore}
 use Rattle.ipdl_top.specs.Feed.{SaysFeed}
 use Rattle.ipdl_top.specs.Gen.{case_course, case_files, holder_name, script_name}
 use Rattle.ipdl_top.specs.Relay.{SaysRelay}
@@ -157,8 +158,8 @@ answer_run-requires-in-Chart-clause-top g c =
     subst (λ (file : List ℕ). HasTop file c.args.found.checked) (sym c.run_request-request-in-Chart.ensures.file)
     (subst (λ (command : Command). HasOwnTop (view_of command) c.args.found.checked) c.in-Chart.is (own_top (view_of c.args.command.now) c.requires.said.0 c.requires.found.0 c.args.found c.requires.said.1 c.requires.found.1))
 
-pub returns : goal.returns
-returns g c =
+pub returns-in-Chart : goal.returns-in-Chart
+returns-in-Chart g c =
     let Gives = g.D.Driver.Gives c.args.driver.now in
     let Relays = g.Q.Relay.Gives c.args.relay.now in
     let found = c.args.found in
@@ -173,3 +174,21 @@ returns g c =
     (subst (λ (course : Course). Is request.rendering course (string_bytes c.in-Chart.options.script) (string_bytes c.in-Chart.sources.file)) c.run_request-request-in-Chart.ensures.course
     (subst (λ (script : List ℕ). Is request.rendering (course_of request) script (string_bytes c.in-Chart.sources.file)) c.run_request-request-in-Chart.ensures.script
     (subst (Is request.rendering (course_of request) request.script.now) c.run_request-request-in-Chart.ensures.file (told text are.script))))))) c.answer_run-in-Chart.ensures
+
+pub answer_explore-requires-clause-top : goal.answer_explore-requires-clause-top
+answer_explore-requires-clause-top g c =
+    subst (λ (file : List ℕ). HasTop file c.args.found.checked) (sym c.as_str-in-Explore.ensures.value)
+    (subst (λ (command : Command). HasOwnTop (view_of command) c.args.found.checked) c.in-Explore.is (own_top (view_of c.args.command.now) c.requires.said.0 c.requires.found.0 c.args.found c.requires.said.1 c.requires.found.1))
+
+pub returns : goal.returns
+returns g c =
+    let Gives = g.D.Driver.Gives c.args.driver.now in
+    let Relays = g.Q.Relay.Gives c.args.relay.now in
+    let found = c.args.found in
+    IfOk-weaker c.answer_explore.result _ _
+    (λ answer told. of_found Gives Relays (view_of c.args.command.now) found answer
+    (subst (λ (command : Command). IsToldFound Gives Relays (view_of command) found answer) (sym c.in-Explore.is)
+    (λ seen are.
+    let options = c.in-Explore.options in
+    let text = seen.script (string_bytes options.script) in
+    subst (λ (file : List ℕ). IsToldOf (SaysExplore (explore_course options) (string_bytes options.script) text file) found.checked answer) c.as_str-in-Explore.ensures.value (told text are.script)))) c.answer_explore.ensures

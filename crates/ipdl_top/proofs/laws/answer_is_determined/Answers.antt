@@ -18,5 +18,6 @@ returns g c = law.answer_is_determined (record {
   runs = record { picks = c.picks_alike.ensures; texts = c.texts_alike.ensures; scripts = c.scripts_alike.ensures; one = c.words_have_one_result.ensures };
   feeds = record { alike = c.feeds_alike.ensures; one = c.feeds_have_one_result.ensures; texts = c.texts_alike.ensures; scripts = c.scripts_alike.ensures };
   audits = record { choices = c.choices_alike.ensures; texts = c.texts_alike.ensures; scripts = c.scripts_alike.ensures };
+  explorations = record { alike = c.explorations_alike.ensures; one = c.explorations_are_one.ensures; scripts = c.scripts_alike.ensures };
   relays = record { alike = c.relays_alike.ensures; one = c.relays_have_one_result.ensures; texts = c.texts_alike.ensures; scripts = c.scripts_alike.ensures };
 }) (g.D.Driver.Gives c.args.driver.now) (g.Q.Relay.Gives c.args.relay.now)

@@ -1,0 +1,3 @@
+mod AllWords
+mod Deciding
+mod Exists

@@ -1,0 +1,9 @@
+pub mod Alike
+pub mod Commuting
+pub mod SideTraces
+pub mod Futures
+pub mod Lengths
+pub mod Ways
+pub mod Covering
+pub mod One
+pub mod Rising

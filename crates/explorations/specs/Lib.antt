@@ -1,0 +1,5 @@
+pub mod Words
+pub mod Explorations
+pub mod Seen
+pub mod Text
+pub mod Laws

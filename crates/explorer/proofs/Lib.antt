@@ -1,0 +1,13 @@
+pub mod Lists
+pub mod Places
+pub mod Points
+pub mod Offers
+pub mod Covering
+pub mod Numbering
+pub mod Keys
+pub mod Counts
+pub mod Paths
+pub mod Searching
+pub mod Lawful
+pub mod Going
+pub mod Running
