@@ -1,4 +1,4 @@
--- The order of words: it is strict and total, it is decided, and a common prefix does not change it.
+-- The order of words: it is strict and total, and it is decided.
 use Rattle.std.proofs.Common.{◌≡◌, ◌⊎◌, ℕ, zero, suc, ◌<◌, ◌≤◌, Bool, true, false, List, [], ◌∷◌, ◌++◌, length, refl, sym, ap, subst, ◌∙◌, inl, inr, ⊎_elim, arith}
 use Rattle.std.proofs.lemmas.Bool.{cases_lt}
 use Rattle.ipdl_base.specs.declared.kinds.Side.{Side}
@@ -117,64 +117,4 @@ decided word other =
     (λ (same : word ≡ other). inr (λ before. irreflexive other (subst (λ (w : List Turn). Precedes w other) same before)))
     (λ (after : Precedes other word). inr (λ before. asymmetric word other before after))
     rest)
-    (compared word other)
-
--- two words are one word, or not
-pub words_or_not : (word other : List Turn) → (word ≡ other) ⊎ (word ≡ other → ⊥)
-words_or_not word other =
-    ⊎_elim
-    (λ (before : Precedes word other). inr (λ same. irreflexive other (subst (λ (w : List Turn). Precedes w other) same before)))
-    (λ (rest : (word ≡ other) ⊎ Precedes other word).
-    ⊎_elim (λ (same : word ≡ other). inl same) (λ (after : Precedes other word). inr (λ same. irreflexive other (subst (Precedes other) same after))) rest)
-    (compared word other)
-
--- Words of several parts
-
--- a common prefix before both words keeps their order
-pub front_keeps : (front word other : List Turn) → Precedes word other → Precedes (front ++ word) (front ++ other)
-front_keeps [] word other before = before
-front_keeps (turn ∷ front) word other before = continues turn (front ++ word) (front ++ other) (front_keeps front word other before)
-
--- and without it they have the same order
-pub front_cancels : (front word other : List Turn) → Precedes (front ++ word) (front ++ other) → Precedes word other
-front_cancels [] word other before = before
-front_cancels (turn ∷ front) word other before =
-    ⊎_elim
-    (λ (less : rank turn < rank turn). absurd (omega (arith, less)))
-    (λ (rest : (turn ≡ turn) × Precedes (front ++ word) (front ++ other)). front_cancels front word other rest.1)
-    (parts (turn ∷ (front ++ word)) (turn ∷ (front ++ other)) before)
-
--- a word precedes itself with letters after it
-pub longer_is_later : (word : List Turn) (turn : Turn) (more : List Turn) → Precedes word (word ++ turn ∷ more)
-longer_is_later [] turn more = ends turn more
-longer_is_later (first ∷ word) turn more = continues first word (word ++ turn ∷ more) (longer_is_later word turn more)
-
--- the first letters that differ after a common prefix decide
-pub letters_decide : (front : List Turn) (turn other : Turn) (word more : List Turn) → rank turn < rank other → Precedes (front ++ turn ∷ word) (front ++ other ∷ more)
-letters_decide front turn other word more less = front_keeps front (turn ∷ word) (other ∷ more) (differs turn other word more less)
-
--- if a word precedes another with as many letters, it does so with any letters after both
-pub as_long_precedes : (word other more rest : List Turn) → length word ≡ length other → Precedes word other → Precedes (word ++ more) (other ++ rest)
-as_long_precedes [] other more rest e before = absurd (by other e before)
-  where
-    by : (other : List Turn) → 0 ≡ length other → Precedes [] other → ⊥
-    by [] e before = parts [] [] before
-    by (turn ∷ other) e before = omega (arith, e)
-as_long_precedes (turn ∷ word) [] more rest e before = absurd (none_before_empty (turn ∷ word) before)
-as_long_precedes (turn ∷ word) (letter ∷ other) more rest e before = by (as_long_precedes word other more rest (omega (arith, e))) (parts (turn ∷ word) (letter ∷ other) before)
-  where
-    by : (Precedes word other → Precedes (word ++ more) (other ++ rest)) → (rank turn < rank letter) ⊎ ((turn ≡ letter) × Precedes word other) → Precedes (turn ∷ (word ++ more)) (letter ∷ (other ++ rest))
-    by shorter (inl less) = differs turn letter (word ++ more) (other ++ rest) less
-    by shorter (inr h) = from_parts (turn ∷ (word ++ more)) (letter ∷ (other ++ rest)) (inr (h.0, shorter h.1))
-
--- of words that begin with as many letters, one precedes the other only if its beginning does, or if the beginnings are the same and the rest does
-pub as_long_cases : (word other more rest : List Turn) → length word ≡ length other → Precedes (word ++ more) (other ++ rest) → Precedes word other ⊎ ((word ≡ other) × Precedes more rest)
-as_long_cases word other more rest e before =
-    ⊎_elim
-    (λ (first : Precedes word other). inl first)
-    (λ (others : (word ≡ other) ⊎ Precedes other word).
-    ⊎_elim
-    (λ (same : word ≡ other). inr (same, front_cancels other more rest (subst (λ (w : List Turn). Precedes (w ++ more) (other ++ rest)) same before)))
-    (λ (after : Precedes other word). absurd (asymmetric (word ++ more) (other ++ rest) before (as_long_precedes other word rest more (sym e) after)))
-    others)
     (compared word other)

@@ -16,9 +16,10 @@ use Rattle.script_steps.specs.Progress.{lines_of}
 use Rattle.script_steps.specs.Turns.{leads, idles, exceeds, outcome}
 use Rattle.explorations.specs.Explorations.{AreFirstWords, IsCovered, IsFirst}
 use Rattle.explorations.specs.Laws.{AlikeWordsAreAsLong, FuturesAreAlike, LeadsAlike}
+use Rattle.explorations.proofs.Order.{none_before_empty, transitive}
 use Rattle.explorations.specs.Words.{AreAlike, Point, Precedes, place_in_order, rank, reached}
 use Rattle.explorer.proofs.Lists.{contains-first, contains-rest}
-use Rattle.explorer.proofs.Places.{GoesOn, back-before, before-back, before-earlier, before-longer, before-more, before-next, before-precedes, before-shorter, before-zero, none-precedes, precedes-before, precedes-on, zero-before}
+use Rattle.explorer.proofs.Places.{GoesOn, back-before, before-back, before-earlier, before-longer, before-more, before-next, before-precedes, before-shorter, before-zero, precedes-before, zero-before}
 use Rattle.explorer.proofs.Points.{IsSpentAfter, at_spent, at_state, goes-alike, goes-nowhere, goes-on, goes-spent, none-after-spent, spent-last}
 use Rattle.explorer.specs.Places.{IsBefore}
 use Rattle.explorer.specs.Searched.{HasCovered}
@@ -58,7 +59,7 @@ module _ (setting : Setting) where
     ordered = λ i j d less within. absurd (omega arith);
     each = λ word c. absurd (omega (arith, c.1));
     inside = λ word c. absurd (omega (arith, c.1));
-    covers = λ word point h leads. absurd (none-precedes word h);
+    covers = λ word point h leads. absurd (none_before_empty word h);
   }
 
   -- The words cover a greater set, where what its further words lead to is covered.
@@ -122,7 +123,7 @@ module _ (setting : Setting) where
   }
 
   pub first-words-to : (word : List Turn) (words : List (List Turn)) → HasCovered setting (λ one. Precedes one word) words → AreFirstWords setting words
-  first-words-to word words h = first-words (λ one. Precedes one word) words (λ one other precedes k. precedes-on one other word precedes k) h
+  first-words-to word words h = first-words (λ one. Precedes one word) words (λ one other precedes k. transitive one other word precedes k) h
 
   pub first-words-before : (word : List Turn) (next : ℕ) (words : List (List Turn)) → HasCovered setting (IsBefore word next) words → AreFirstWords setting words
   first-words-before word next words h = first-words (IsBefore word next) words (λ one other precedes k. before-earlier word next one other precedes k) h

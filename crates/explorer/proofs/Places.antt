@@ -4,6 +4,7 @@ use Rattle.std.proofs.lemmas.Bool.{cases_lt}
 use Rattle.ipdl_base.specs.declared.kinds.Side.{Side}
 use Rattle.ipdl_base.specs.declared.kinds.Side.TheVariants as sides
 use Rattle.schedules.specs.declared.turn.Turn.{Turn}
+use Rattle.explorations.proofs.Order.{none_before_empty, parts, same_rank}
 use Rattle.explorations.specs.Words.{Precedes, ends, differs, continues, place_in_order, rank}
 use Rattle.explorer.specs.Places.{IsBefore}
 
@@ -18,65 +19,12 @@ small true sides.Child = omega arith
 pub rank-small : (turn : Turn) → rank turn < 4
 rank-small turn = small turn.only_deliver turn.side
 
-abbrev letter_at : ℕ → Turn
-letter_at zero = record { side = sides.Parent; only_deliver = false }
-letter_at (suc zero) = record { side = sides.Child; only_deliver = false }
-letter_at (suc (suc zero)) = record { side = sides.Parent; only_deliver = true }
-letter_at (suc (suc (suc n))) = record { side = sides.Child; only_deliver = true }
-
-letter-back : (b : Bool) (s : Side) → letter_at (place_in_order b s) ≡ record { side = s; only_deliver = b }
-letter-back false sides.Parent = refl
-letter-back false sides.Child = refl
-letter-back true sides.Parent = refl
-letter-back true sides.Child = refl
-
-pub rank-same : (turn letter : Turn) → rank turn ≡ rank letter → turn ≡ letter
-rank-same turn letter h = sym (letter-back turn.only_deliver turn.side) ∙ ap letter_at h ∙ letter-back letter.only_deliver letter.side
-
 same-or-less : (turn letter : Turn) → rank turn < rank letter + 1 → (rank turn < rank letter) ⊎ (turn ≡ letter)
 same-or-less turn letter h = by (cases_lt (rank turn) (rank letter))
   where
     by : (rank turn < rank letter) ⊎ (rank letter ≤ rank turn) → (rank turn < rank letter) ⊎ (turn ≡ letter)
     by (inl less) = inl less
-    by (inr more) = inr (rank-same turn letter (omega arith))
-
--- Precedes by recursion
-
-abbrev PrecedesSo : List Turn → List Turn → Type 0
-PrecedesSo [] [] = ⊥
-PrecedesSo [] (y ∷ ys) = Unit {0}
-PrecedesSo (x ∷ xs) [] = ⊥
-PrecedesSo (x ∷ xs) (y ∷ ys) = (rank x < rank y) ⊎ ((x ≡ y) × PrecedesSo xs ys)
-
-so : {one other : List Turn} → Precedes one other → PrecedesSo one other
-so (ends turn word) = tt
-so (differs turn other word more less) = inl less
-so (continues turn word more h) = inr (refl, so h)
-
-from-so : (one other : List Turn) → PrecedesSo one other → Precedes one other
-from-so [] [] h = absurd h
-from-so [] (y ∷ other) h = ends y other
-from-so (x ∷ one) [] h = absurd h
-from-so (x ∷ one) (y ∷ other) (inl h) = differs x y one other h
-from-so (x ∷ one) (y ∷ other) (inr h) = subst (λ (l : Turn). Precedes (x ∷ one) (l ∷ other)) h.0 (continues x one other (from-so one other h.1))
-
-on-so : (one other third : List Turn) → PrecedesSo one other → PrecedesSo other third → PrecedesSo one third
-on-so [] [] third h k = absurd h
-on-so [] (y ∷ other) [] h k = absurd k
-on-so [] (y ∷ other) (z ∷ third) h k = tt
-on-so (x ∷ one) [] third h k = absurd h
-on-so (x ∷ one) (y ∷ other) [] h k = absurd k
-on-so (x ∷ one) (y ∷ other) (z ∷ third) (inl h) (inl k) = inl (omega arith)
-on-so (x ∷ one) (y ∷ other) (z ∷ third) (inl h) (inr k) = inl (let e : rank y ≡ rank z = ap rank k.0 in omega arith)
-on-so (x ∷ one) (y ∷ other) (z ∷ third) (inr h) (inl k) = inl (let e : rank x ≡ rank y = ap rank h.0 in omega arith)
-on-so (x ∷ one) (y ∷ other) (z ∷ third) (inr h) (inr k) = inr (h.0 ∙ k.0, on-so one other third h.1 k.1)
-
-pub precedes-on : (one other third : List Turn) → Precedes one other → Precedes other third → Precedes one third
-precedes-on one other third h k = from-so one third (on-so one other third (so h) (so k))
-
-pub none-precedes : (word : List Turn) → Precedes word [] → ⊥
-none-precedes [] h = so h
-none-precedes (x ∷ word) h = so h
+    by (inr more) = inr (same_rank turn letter (omega arith))
 
 -- Before the place of a letter are the words that precede the word with that letter
 
@@ -88,18 +36,19 @@ before-precedes (y ∷ word) turn (x ∷ one) (inl h) = differs x y one (word ++
 before-precedes (y ∷ word) turn (x ∷ one) (inr h) =
     subst (λ (l : Turn). Precedes (x ∷ one) (l ∷ (word ++ turn ∷ []))) h.0 (continues x one (word ++ turn ∷ []) (before-precedes word turn one h.1))
 
-precedes-before-so : (word : List Turn) (turn : Turn) (one : List Turn) → PrecedesSo one (word ++ turn ∷ []) → IsBefore word (rank turn) one
-precedes-before-so [] turn [] h = tt
-precedes-before-so [] turn (x ∷ []) (inl h) = h
-precedes-before-so [] turn (x ∷ []) (inr h) = absurd h.1
-precedes-before-so [] turn (x ∷ y ∷ one) (inl h) = h
-precedes-before-so [] turn (x ∷ y ∷ one) (inr h) = absurd h.1
-precedes-before-so (y ∷ word) turn [] h = tt
-precedes-before-so (y ∷ word) turn (x ∷ one) (inl h) = inl h
-precedes-before-so (y ∷ word) turn (x ∷ one) (inr h) = inr (h.0, precedes-before-so word turn one h.1)
-
 pub precedes-before : (word : List Turn) (turn : Turn) (one : List Turn) → Precedes one (word ++ turn ∷ []) → IsBefore word (rank turn) one
-precedes-before word turn one h = precedes-before-so word turn one (so h)
+precedes-before [] turn [] h = tt
+precedes-before [] turn (x ∷ one) h = by (parts (x ∷ one) (turn ∷ []) h)
+  where
+    by : (rank x < rank turn) ⊎ ((x ≡ turn) × Precedes one []) → rank x < rank turn
+    by (inl k) = k
+    by (inr k) = absurd (none_before_empty one k.1)
+precedes-before (y ∷ word) turn [] h = tt
+precedes-before (y ∷ word) turn (x ∷ one) h = by (precedes-before word turn one) (parts (x ∷ one) (y ∷ (word ++ turn ∷ [])) h)
+  where
+    by : (Precedes one (word ++ turn ∷ []) → IsBefore word (rank turn) one) → (rank x < rank y) ⊎ ((x ≡ y) × Precedes one (word ++ turn ∷ [])) → IsBefore (y ∷ word) (rank turn) (x ∷ one)
+    by shorter (inl k) = inl k
+    by shorter (inr k) = inr (k.0, shorter k.1)
 
 -- What precedes a word before a place is before the place
 
@@ -107,20 +56,23 @@ less-before : (next : ℕ) (x y : Turn) → (rank x < rank y) ⊎ (x ≡ y) → 
 less-before next x y (inl h) k = omega arith
 less-before next x y (inr h) k = let e : rank x ≡ rank y = ap rank h in omega arith
 
-before-earlier-so : (word : List Turn) (next : ℕ) (one other : List Turn) → PrecedesSo one other → IsBefore word next other → IsBefore word next one
-before-earlier-so [] next [] other h k = tt
-before-earlier-so [] next (x ∷ one) [] h k = absurd h
-before-earlier-so [] next (x ∷ one) (y ∷ other) (inl h) k = less-before next x y (inl h) k
-before-earlier-so [] next (x ∷ one) (y ∷ other) (inr h) k = less-before next x y (inr h.0) k
-before-earlier-so (z ∷ word) next [] other h k = tt
-before-earlier-so (z ∷ word) next (x ∷ one) [] h k = absurd h
-before-earlier-so (z ∷ word) next (x ∷ one) (y ∷ other) (inl h) (inl k) = inl (omega arith)
-before-earlier-so (z ∷ word) next (x ∷ one) (y ∷ other) (inl h) (inr k) = inl (let e : rank y ≡ rank z = ap rank k.0 in omega arith)
-before-earlier-so (z ∷ word) next (x ∷ one) (y ∷ other) (inr h) (inl k) = inl (let e : rank x ≡ rank y = ap rank h.0 in omega arith)
-before-earlier-so (z ∷ word) next (x ∷ one) (y ∷ other) (inr h) (inr k) = inr (h.0 ∙ k.0, before-earlier-so word next one other h.1 k.1)
-
 pub before-earlier : (word : List Turn) (next : ℕ) (one other : List Turn) → Precedes one other → IsBefore word next other → IsBefore word next one
-before-earlier word next one other h k = before-earlier-so word next one other (so h) k
+before-earlier [] next [] other h k = tt
+before-earlier [] next (x ∷ one) [] h k = absurd (none_before_empty (x ∷ one) h)
+before-earlier [] next (x ∷ one) (y ∷ other) h k = by (parts (x ∷ one) (y ∷ other) h)
+  where
+    by : (rank x < rank y) ⊎ ((x ≡ y) × Precedes one other) → rank x < next
+    by (inl less) = less-before next x y (inl less) k
+    by (inr same) = less-before next x y (inr same.0) k
+before-earlier (z ∷ word) next [] other h k = tt
+before-earlier (z ∷ word) next (x ∷ one) [] h k = absurd (none_before_empty (x ∷ one) h)
+before-earlier (z ∷ word) next (x ∷ one) (y ∷ other) h k = by (before-earlier word next one other) (parts (x ∷ one) (y ∷ other) h) k
+  where
+    by : (Precedes one other → IsBefore word next other → IsBefore word next one) → (rank x < rank y) ⊎ ((x ≡ y) × Precedes one other) → IsBefore (z ∷ word) next (y ∷ other) → IsBefore (z ∷ word) next (x ∷ one)
+    by shorter (inl less) (inl k) = inl (omega (arith, less, k))
+    by shorter (inl less) (inr k) = inl (let e : rank y ≡ rank z = ap rank k.0 in omega (arith, less, e))
+    by shorter (inr same) (inl k) = inl (let e : rank x ≡ rank y = ap rank same.0 in omega (arith, k, e))
+    by shorter (inr same) (inr k) = inr (same.0 ∙ k.0, shorter same.1 k.1)
 
 -- The next letter
 

@@ -5,7 +5,9 @@ use Rattle.channel_model.specs.Runs.{RunState}
 use Rattle.schedules.specs.declared.turn.Turn.{Turn}
 use Rattle.script_steps.specs.Choices.{Setting, Choice, beginning_of, is_within}
 use Rattle.script_steps.specs.Turns.{TurnOutcome, leads, idles, exceeds, led_to, outcome, outcome_by, turn_choice}
+use Rattle.explorations.proofs.Points.{by_outcome, point-by}
 use Rattle.explorations.specs.Words.{Point, point_from, reached, spent_point}
+use Rattle.exploration_laws.proofs.Futures.{point-append}
 
 abbrev pub at_state : RunState → Point
 at_state state = record { state = state; spent = None }
@@ -16,44 +18,20 @@ at_spent state side = record { state = state; spent = Some side }
 pub point-same : {one other : Point} → Some one ≡ Some other → one ≡ other
 point-same h = cc
 
--- what the first letter of a word leads to
-abbrev pub point_by : Setting → Turn → List Turn → RunState → TurnOutcome → Option Point
-point_by setting turn word state (leads next) = point_from setting word next
-point_by setting turn word state idles = None
-point_by setting turn word state exceeds = spent_point state turn.side word
-
-pub point-first : (setting : Setting) (turn : Turn) (word : List Turn) (state : RunState) (found : TurnOutcome) → outcome setting turn state ≡ found → point_from setting (turn ∷ word) state ≡ point_by setting turn word state found
-point-first setting turn word state found is = so (outcome setting turn state) ∙ ap (point_by setting turn word state) is
-  where
-    so : (x : TurnOutcome) → (elim x as (λ t. Option Point) [ leads next ↦ point_from setting word next | idles ↦ None | exceeds ↦ spent_point state turn.side word ]) ≡ point_by setting turn word state x
-    so (leads next) = refl
-    so idles = refl
-    so exceeds = refl
-
 pub no-spent : (state last : RunState) (side : Side) (word : List Turn) → spent_point state side word ≡ Some (at_state last) → ⊥
 no-spent state last side [] h = let e : Some side ≡ None = ap (λ (p : Point). p.spent) (point-same h) in cc
 no-spent state last side (turn ∷ word) h = cc
 
 -- A word after one that leads to a state
 
-from-append : (setting : Setting) (word more : List Turn) (state last : RunState) → point_from setting word state ≡ Some (at_state last) → point_from setting (word ++ more) state ≡ point_from setting more last
-from-append setting [] more state last h = ap (λ (p : Point). point_from setting more p.state) (point-same h)
-from-append setting (turn ∷ word) more state last h = by (outcome setting turn state) refl (λ next. from-append setting word more next last)
-  where
-    by : (found : TurnOutcome) → outcome setting turn state ≡ found → ((next : RunState) → point_from setting word next ≡ Some (at_state last) → point_from setting (word ++ more) next ≡ point_from setting more last)
-        → point_from setting (turn ∷ (word ++ more)) state ≡ point_from setting more last
-    by (leads next) is onward = point-first setting turn (word ++ more) state (leads next) is ∙ onward next (sym (point-first setting turn word state (leads next) is) ∙ h)
-    by idles is onward = let e : None ≡ Some (at_state last) = sym (point-first setting turn word state idles is) ∙ h in cc
-    by exceeds is onward = absurd (no-spent state last turn.side word (sym (point-first setting turn word state exceeds is) ∙ h))
-
 pub reached-append : (setting : Setting) (word more : List Turn) (state : RunState) → reached setting word ≡ Some (at_state state) → reached setting (word ++ more) ≡ point_from setting more state
-reached-append setting word more state h = from-append setting word more (beginning_of setting) state h
+reached-append setting word more state h = point-append setting word more (beginning_of setting) state h
 
 -- The words after a letter, by what the letter does
 
 module _ (setting : Setting) (word : List Turn) (turn : Turn) (state : RunState) (leads_there : reached setting word ≡ Some (at_state state)) where
-  pub goes-by : (more : List Turn) (found : TurnOutcome) → outcome setting turn state ≡ found → reached setting (word ++ turn ∷ more) ≡ point_by setting turn more state found
-  goes-by more found is = reached-append setting word (turn ∷ more) state leads_there ∙ point-first setting turn more state found is
+  pub goes-by : (more : List Turn) (found : TurnOutcome) → outcome setting turn state ≡ found → reached setting (word ++ turn ∷ more) ≡ by_outcome setting turn.side more state found
+  goes-by more found is = reached-append setting word (turn ∷ more) state leads_there ∙ point-by setting turn more state found is
 
   pub goes-nowhere : (more : List Turn) → outcome setting turn state ≡ idles → reached setting (word ++ turn ∷ more) ≡ None
   goes-nowhere more is = goes-by more idles is
@@ -70,7 +48,7 @@ module _ (setting : Setting) (word : List Turn) (turn : Turn) (state : RunState)
   -- two letters that do the same, with all that follows
   pub goes-alike : (letter : Turn) (more : List Turn) (next : RunState) → outcome setting turn state ≡ leads next → outcome setting letter state ≡ leads next → reached setting (word ++ turn ∷ more) ≡ reached setting (word ++ letter ∷ more)
   goes-alike letter more next is other =
-      goes-by more (leads next) is ∙ sym (reached-append setting word (letter ∷ more) state leads_there ∙ point-first setting letter more state (leads next) other)
+      goes-by more (leads next) is ∙ sym (reached-append setting word (letter ∷ more) state leads_there ∙ point-by setting letter more state (leads next) other)
 
 -- A word that leads to a spent side: its last letter is of that side, and the word before it leads to the state
 
@@ -103,14 +81,14 @@ spent-last-from setting (turn ∷ word) from state side h = by (outcome setting 
       first = turn ∷ k.first;
       turn = k.turn;
       word_is = ap (λ (w : List Turn). turn ∷ w) k.word_is;
-      before = point-first setting turn k.first from (leads next) is ∙ k.before;
+      before = point-by setting turn k.first from (leads next) is ∙ k.before;
       side_is = k.side_is;
     }
 
     by : (found : TurnOutcome) → outcome setting turn from ≡ found → ((next : RunState) → point_from setting word next ≡ Some (at_spent state side) → IsSpentAfter setting next word state side) → IsSpentAfter setting from (turn ∷ word) state side
-    by (leads next) is onward = goes-further next is (onward next (sym (point-first setting turn word from (leads next) is) ∙ h))
-    by idles is onward = let e : None ≡ Some (at_spent state side) = sym (point-first setting turn word from idles is) ∙ h in cc
-    by exceeds is onward = ends-so word (sym (point-first setting turn word from exceeds is) ∙ h)
+    by (leads next) is onward = goes-further next is (onward next (sym (point-by setting turn word from (leads next) is) ∙ h))
+    by idles is onward = let e : None ≡ Some (at_spent state side) = sym (point-by setting turn word from idles is) ∙ h in cc
+    by exceeds is onward = ends-so word (sym (point-by setting turn word from exceeds is) ∙ h)
 
 pub spent-last : (setting : Setting) (word : List Turn) (state : RunState) (side : Side) → reached setting word ≡ Some (at_spent state side) → IsSpentAfter setting (beginning_of setting) word state side
 spent-last setting word state side h = spent-last-from setting word (beginning_of setting) state side h

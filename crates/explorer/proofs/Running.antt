@@ -11,7 +11,7 @@ use Rattle.world_core.specs.declared.answers.StepAnswer.{StepAnswer}
 use Rattle.world_core.specs.declared.answers.StepAnswer.TheVariants as answer
 use Rattle.world_core.specs.Turns.{TurnGives}
 use Rattle.world_core.specs.WorldView.{WorldView, opening_of}
-use Rattle.explorer.proofs.Points.{at_state, goes-on, no-spent, point-first, point-same}
+use Rattle.explorer.proofs.Points.{at_state, goes-on, no-spent, point-same}
 use Rattle.explorer.specs.declared.runner.Runner.{Runner}
 use Rattle.explorer.specs.Runs.{HasCome, HasFollowed, IsGiven, IsLed, IsPassable, MayGoOn, RunsAt, setting_of}
 
@@ -34,20 +34,20 @@ module _ (begun now next : WorldView) (word : List Turn) (i : ℕ) (d : Turn) (i
   follows-did told e gives =
       let g : TurnGives now turn answer.Did next = subst (λ (a : StepAnswer). TurnGives now turn a next) e gives in
       let is : outcome begun.setting turn now.state ≡ leads next.state = subst (λ (s : Setting). outcome s turn now.state ≡ leads next.state) here.same g.0 in
-      record { same = g.1 ∙ here.same; on = sym (point-first begun.setting turn (drop (i + 1) word) now.state (leads next.state) is) ∙ here.on }
+      record { same = g.1 ∙ here.same; on = sym (point-by begun.setting turn (drop (i + 1) word) now.state (leads next.state) is) ∙ here.on }
 
   pub follows-some : IsLed begun word → (told : StepAnswer) (side : Side) → TurnGives now turn told next → (told ≡ answer.Nothing → ⊥)
   follows-some led told side gives e =
       let g : TurnGives now turn answer.Nothing next = subst (λ (a : StepAnswer). TurnGives now turn a next) e gives in
       let is : outcome begun.setting turn now.state ≡ idles = subst (λ (s : Setting). outcome s turn now.state ≡ idles) here.same g.0 in
-      let k : None ≡ Some (at_state led.last) = sym (point-first begun.setting turn (drop (i + 1) word) now.state idles is) ∙ here.on ∙ led.leads in
+      let k : None ≡ Some (at_state led.last) = sym (point-by begun.setting turn (drop (i + 1) word) now.state idles is) ∙ here.on ∙ led.leads in
       cc
 
   pub follows-within : IsLed begun word → (told : StepAnswer) (side : Side) → TurnGives now turn told next → (told ≡ answer.Spent side → ⊥)
   follows-within led told side gives e =
       let g : TurnGives now turn (answer.Spent side) next = subst (λ (a : StepAnswer). TurnGives now turn a next) e gives in
       let is : outcome begun.setting turn now.state ≡ exceeds = subst (λ (s : Setting). outcome s turn now.state ≡ exceeds) here.same g.0 in
-      no-spent now.state led.last turn.side (drop (i + 1) word) (sym (point-first begun.setting turn (drop (i + 1) word) now.state exceeds is) ∙ here.on ∙ led.leads)
+      no-spent now.state led.last turn.side (drop (i + 1) word) (sym (point-by begun.setting turn (drop (i + 1) word) now.state exceeds is) ∙ here.on ∙ led.leads)
 
 pub follows-start : (w : WorldView) (word : List Turn) → FollowsSo w w word word
 follows-start w word = record { same = refl; on = refl }
