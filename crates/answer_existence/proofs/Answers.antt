@@ -2,20 +2,21 @@
 use Rattle.std.proofs.Common.{◌≡◌, ℕ, ◌≤◌, List, [], ◌∷◌, Option, Some, None, refl, inl, inr, ⊎_elim, arith, codes}
 use Rattle.std.specs.List.{AllByRecursion}
 use Rattle.std.specs.Str.{IsUtf8}
-use Rattle.command_existence.specs.Laws.{WordsAreDecided}
+use Rattle.command_existence.specs.Laws.{AskingIsDecided, WordsAreDecided}
 use Rattle.command_words.specs.Command.{CommandView, Say}
 use Rattle.command_words.specs.Command as command
 use Rattle.command_words.specs.RunOptions.{IsLimit}
 use Rattle.ipdl_top.specs.declared.answer.CommandAnswer.{CommandAnswer}
 use Rattle.ipdl_top.specs.declared.rendering.Rendering.TheVariants.{Chart, Summary, Transcript}
 use Rattle.ipdl_top.specs.Audit.{SaysAuditedOf}
-use Rattle.ipdl_top.specs.CommandAnswer.{AnswersTo, IsAnswer, SaysTables, table_answer, usage_answer}
+use Rattle.ipdl_top.specs.CommandAnswer.{AnswersTo, IsAnswer, IsAnswerWithout, SaysTables, table_answer, usage_answer}
 use Rattle.ipdl_top.specs.CommandFiles.{given_by}
 use Rattle.ipdl_top.specs.Explore.{SaysExplored}
 use Rattle.ipdl_top.specs.Feed.{SaysFedOf}
 use Rattle.ipdl_top.specs.FileViews.{FileViews}
 use Rattle.ipdl_top.specs.Frames.{SaysFrames}
 use Rattle.ipdl_top.specs.Gen.{case_course, case_files, case_path, holder_name, script_name}
+use Rattle.ipdl_top.specs.Help.{topic_text}
 use Rattle.ipdl_top.specs.Laws.{OneAnswer}
 use Rattle.ipdl_top.specs.Relay.{Relaying, SaysRelayed}
 use Rattle.ipdl_top.specs.Run.{Driving, SaysHistory}
@@ -28,6 +29,7 @@ use Rattle.answer_existence.proofs.Said.{SayingLaws, audit_said, by_script, expl
 -- the laws from which an answer follows
 pub record AnswerLaws : Type 0 where
   pub words : WordsAreDecided
+  pub asking : AskingIsDecided
   pub compilation : CompilationLaws
   pub saying : SayingLaws
 
@@ -87,9 +89,13 @@ module _ (laws : AnswerLaws) (Gives : Driving) (Relays : Relaying) (seen : FileV
       has_compilation_of_one laws.compilation _ seen.files seen.list list path file is.1.operands.front is.1.operands.ending
       (by_script laws.saying (SaysExplored course) script (seen.script script) file (explore_said laws.saying course (small_limit _ course.limit is.1.limit_is)))
 
+  -- Words that are no command have an answer.
+  without_command : (words : List (List ℕ)) → (answer : CommandAnswer) × IsAnswerWithout words answer
+  without_command words = ⊎_elim (λ asked. (table_answer (topic_text asked.0), inl (asked.0, (asked.1, refl)))) (λ nothing. (usage_answer, inr (nothing, refl))) (laws.asking words)
+
   has_answer : (words : List (List ℕ)) → AllByRecursion IsUtf8 words → Drives words → (answer : CommandAnswer) × IsAnswer Gives Relays seen words answer
   has_answer words texts drives =
-      ⊎_elim (λ said. let a = answer_to said.0 words said.1 drives in (a.0, inl (record { command = said.0; said = said.1; answers = a.1 }))) (λ none. (usage_answer, inr (none, refl))) (laws.words words texts)
+      ⊎_elim (λ said. let a = answer_to said.0 words said.1 drives in (a.0, inl (record { command = said.0; said = said.1; answers = a.1 }))) (λ none. let a = without_command words in (a.0, inr (none, a.1))) (laws.words words texts)
 
 pub exactly_one_answer : AnswerLaws → (Gives : Driving) (Relays : Relaying) → OneAnswer Gives Relays → ExactlyOneAnswer Gives Relays
 exactly_one_answer laws Gives Relays one seen words texts bytes drives relays =

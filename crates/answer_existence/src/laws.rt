@@ -3,7 +3,7 @@
 
 ghost use Rattle.answer_existence.specs.Laws.{ExactlyOneAnswer, RelaysEnd, TurnsRelayAll, WordsDriveAll};
 
-use command_existence::words_are_decided;
+use command_existence::{asking_is_decided, words_are_decided};
 use exploration_existence::explorations_exist;
 use exploration_laws::{ways_are_run, ways_cover_texts};
 use file_existence::{clean_files_have_programs, findings_are_listed, reaches_exist};
@@ -66,6 +66,7 @@ pub fn one_answer<D: Driver, Q: Relay>(driver: &D, relay: &Q)
 {
     answer_is_determined(driver, relay);
     words_are_decided();
+    asking_is_decided();
     reaches_exist();
     findings_are_listed();
     clean_files_have_programs();

@@ -1,4 +1,5 @@
 mod Commands
 mod Files
+mod Topics
 mod Values
 mod Words

@@ -20,13 +20,15 @@ use world_core::OneThread;
 const USAGE: &str = "usage: ipdl [-s LIST] [--path DIRS] FILES
        ipdl run [-s LIST] [--path DIRS] [--schedule WORD] [--limit N] [--die SIDE:K] SCRIPT FILE
        ipdl frames [-s LIST] [--path DIRS] [--to 2] FILE FRAMES
-       ipdl waits [-s LIST] [--path DIRS] FILE
        ipdl gen [--actors A] N
        ipdl feed [-s LIST] [--path DIRS] [--limit N] --side SIDE SCRIPT FILE FRAMES
-       ipdl audit [-s LIST] [--path DIRS] [--limit N] SCRIPT FILE TRANSCRIPT
        ipdl relay [-s LIST] [--path DIRS] [--die SIDE:K] [--limit N] SCRIPT FILE
+       ipdl audit [-s LIST] [--path DIRS] [--limit N] SCRIPT FILE TRANSCRIPT
+       ipdl waits [-s LIST] [--path DIRS] FILE
        ipdl chart [-s LIST] [--path DIRS] [--schedule WORD] [--limit N] [--die SIDE:K] SCRIPT FILE
        ipdl explore [-s LIST] [--path DIRS] [--limit N] [--ways M] SCRIPT FILE
+       ipdl help [COMMAND]
+       ipdl version
 ";
 
 /// A file: its name and its bytes.
@@ -52,6 +54,16 @@ pub struct Left {
     out: MemorySink,
     err: MemorySink,
     reads: u64,
+}
+
+impl Left {
+    /// Returns whether the call did its work, wrote a text that begins so to `out` and nothing to `err`, and read nothing.
+    pub fn says(&self, begins: &[u8]) -> bool {
+        self.status == Status::Done
+            && self.out.written().starts_with(begins)
+            && self.err.written().is_empty()
+            && self.reads == 0
+    }
 }
 
 /// Files in memory that count their reads.

@@ -22,6 +22,8 @@ mod relay_rows;
 #[cfg(test)]
 mod run_rows;
 #[cfg(test)]
+mod topics;
+#[cfg(test)]
 mod wait_rows;
 #[cfg(test)]
 mod words;

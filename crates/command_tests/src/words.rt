@@ -509,7 +509,7 @@ fn shown(alloc: Global, words: &[String]) -> Result<String, WordsFault> {
 }
 
 /// Returns the words of a row.
-fn words_of(alloc: Global, row: &str) -> Result<Vec<String>, AllocError> {
+pub fn words_of(alloc: Global, row: &str) -> Result<Vec<String>, AllocError> {
     let mut words = Vec::new(alloc);
     for word in row.split(' ') {
         if word == "''" {

@@ -22,3 +22,4 @@ pub mod AuditFound
 pub mod RelayFound
 pub mod ExploreFound
 pub mod OneCommand
+pub mod OneTopic

@@ -14,4 +14,5 @@ pub mod Audit
 pub mod Relay
 pub mod Explore
 pub mod Command
+pub mod Topics
 pub mod Listed

@@ -20,6 +20,7 @@ mod options;
 mod relay;
 mod run;
 mod texts;
+mod topic;
 mod waits;
 
 pub use audit::AuditOptions;
@@ -31,3 +32,4 @@ pub use frames::FramesOptions;
 pub use laws::one_command;
 pub use relay::RelayOptions;
 pub use run::RunOptions;
+pub use topic::{CommandName, Topic, topic_of};

@@ -1,8 +1,8 @@
--- A process whose words are not a command.
+-- A process whose words are not a command, and ask for nothing.
 use Rattle.std.proofs.Common.{◌≡◌, ◌⊎◌, ℕ, List, [], refl, sym, ◌∙◌, ap, inl, inr}
 use Rattle.std.specs.Prelude.{None}
 use Rattle.std.proofs.lemmas.Option.{same_Some}
-use Rattle.command_words.specs.Command.{IsNoCommand}
+use Rattle.command_words.specs.Topics.{MeanNothing}
 use Rattle.ipdl_top.specs.Command.{usage_text}
 use Rattle.ipdl_top.specs.CommandAnswer.{usage_answer}
 use Rattle.ipdl_top.specs.FileViews.{FileViews, steady}
@@ -15,7 +15,7 @@ use Rattle.ipdl_cli.specs.Ending.{AnswersByReads, IsAnswerTo, Process, only_writ
 use Rattle.ipdl_cli.proofs.Statuses.{usage_alone}
 
 -- it may read nothing, end with 2, and write the usage text to standard error only
-pub may_say_usage : (words : List (List ℕ)) → IsNoCommand words → AnswersByReads (record { words = words; reads = []; code = 2; out = []; err = usage_text })
+pub may_say_usage : (words : List (List ℕ)) → MeanNothing words → AnswersByReads (record { words = words; reads = []; code = 2; out = []; err = usage_text })
 may_say_usage words none = record {
   status = Usage;
   outcome = inl record {
@@ -23,7 +23,7 @@ may_say_usage words none = record {
     logged = refl;
     told_agrees = tt;
     consistent = (steady (λ name. None), record { files = tt; list = tt; script = tt; input = tt });
-    each = λ seen agrees. inl record { answer = usage_answer; is = inr (none, refl); ends = refl; written = record { out_text = refl; err_text = refl } };
+    each = λ seen agrees. inl record { answer = usage_answer; is = inr (none.0, inr (none.1, refl)); ends = refl; written = record { out_text = refl; err_text = refl } };
   };
   reads = record { reads = []; logged = refl; none = tt };
   nothing = λ stops. absurd (elim stops [ inl is ↦ cc | inr is ↦ cc ]);
@@ -31,7 +31,7 @@ may_say_usage words none = record {
 }
 
 -- if it ends with 2, it wrote the usage text to standard error, and nothing to standard output
-pub says_usage : (process : Process) → IsNoCommand process.words → AnswersByReads process → process.code ≡ 2 → (process.out ≡ []) × (process.err ≡ usage_text)
+pub says_usage : (process : Process) → MeanNothing process.words → AnswersByReads process → process.code ≡ 2 → (process.out ≡ []) × (process.err ≡ usage_text)
 says_usage process none answers two =
     let usage : answers.status ≡ Usage = usage_alone answers.status (sym answers.ends ∙ two) in
     elim answers.outcome [

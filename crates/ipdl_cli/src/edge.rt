@@ -6,6 +6,7 @@ ghost use Rattle.ipdl_base.specs.Outside.{Rose};
 ghost use Rattle.file_log.specs.Recorded.{files_of, reads_of};
 ghost use Rattle.command_words.specs.Command.{IsNoCommand};
 ghost use Rattle.command_words.specs.Gen.{IsGen};
+ghost use Rattle.command_words.specs.Topics.{MeanNothing};
 ghost use Rattle.ipdl_top.specs.CommandAnswer.{IsAnswer, usage_answer};
 ghost use Rattle.ipdl_top.specs.FileViews.{ForMap};
 ghost use Rattle.ipdl_top.specs.Written.{WritesAll};
@@ -50,8 +51,8 @@ pub fn exit_code_of<F: Files, O: Sink, E: Sink, D: Driver, Q: Relay>(
         (record { old = O.written out.old; new = O.written out.new })
         (record { old = E.written err.old; new = E.written err.new }) }
     ensures code { IsCode (exit_status result) }
-    ensures usage { exit_status result ≡ 2 → IsNoCommand (map string_bytes words.now) }
-    ensures no_command { IsNoCommand (map string_bytes words.now) →
+    ensures usage { exit_status result ≡ 2 → MeanNothing (map string_bytes words.now) }
+    ensures no_command { MeanNothing (map string_bytes words.now) →
         (exit_status result ≡ 2) ⊎ ((exit_status result ≡ 4) ⊎ (exit_status result ≡ 6)) }
     ensures usage_text { exit_status result ≡ 2 → WritesAll usage_answer
         (record { old = O.written out.old; new = O.written out.new })

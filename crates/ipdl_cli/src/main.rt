@@ -6,6 +6,7 @@ ghost use Rattle.std.specs.Process.{exit_status};
 ghost use Rattle.file_log.specs.Recorded.{files_of, reads_of};
 ghost use Rattle.command_words.specs.Command.{IsNoCommand};
 ghost use Rattle.command_words.specs.Gen.{IsGen};
+ghost use Rattle.command_words.specs.Topics.{MeanNothing};
 ghost use Rattle.host_io.specs.OpenedFiles.{read_faults_of};
 ghost use Rattle.host_io.specs.Streams.{IsUnused, bytes_of, faults_of};
 ghost use Rattle.ipdl_base.specs.Outside.{Rose};
@@ -63,8 +64,8 @@ fn run<'r, R: Files + Threads + Wait + Sync + AllocGlobal, O: Write, E: Write>(
       out = bytes_of out.new;
       err = bytes_of err.new;
     }) }
-    ensures usage { exit_status result ≡ 2 → IsNoCommand (map string_bytes (drop 1 all.now)) }
-    ensures no_command { IsNoCommand (map string_bytes (drop 1 all.now)) →
+    ensures usage { exit_status result ≡ 2 → MeanNothing (map string_bytes (drop 1 all.now)) }
+    ensures no_command { MeanNothing (map string_bytes (drop 1 all.now)) →
         (exit_status result ≡ 2) ⊎ ((exit_status result ≡ 4) ⊎ (exit_status result ≡ 6)) }
     ensures usage_text { exit_status result ≡ 2 → (bytes_of out.new ≡ []) × (bytes_of err.new ≡ usage_text) }
     ensures read_fault { exit_status result ≡ 3 → Rose (read_faults_of (files_of files.old)) (read_faults_of (files_of files.new)) }

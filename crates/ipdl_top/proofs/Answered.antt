@@ -1,10 +1,12 @@
 -- What follows from an answer to words.
-use Rattle.std.proofs.Common.{◌≡◌, ◌≢◌, ◌⊎◌, ℕ, Bool, true, false, List, refl, ap, ◌∙◌, sym, inl, inr, true≢false}
+use Rattle.std.proofs.Common.{◌≡◌, ◌≢◌, ◌⊎◌, ℕ, Bool, true, false, List, refl, ap, ◌∙◌, sym, inl, inr, ⊎_elim, true≢false}
 use Rattle.std.specs.Prelude.{Option, Some, None}
 use Rattle.ipdl_base.specs.Outside.{FileMap}
 use Rattle.ipdl_base.specs.declared.files.TheConstants.{MOST_BYTES}
 use Rattle.transcripts.specs.Compared.{most_text_bytes}
-use Rattle.command_words.specs.Command.{CommandView, IsNoCommand, audit, chart, compile, explore, feed, frames, gen, relay, run, waits}
+use Rattle.command_words.specs.declared.topic.Topic.{Topic}
+use Rattle.command_words.specs.Topics.{Asks, MeanNothing}
+use Rattle.command_words.specs.Command.{CommandView, audit, chart, compile, explore, feed, frames, gen, relay, run, waits}
 use Rattle.command_words.specs.Explore.{ExploreCourse}
 use Rattle.command_words.specs.Feed.{FeedCourse}
 use Rattle.command_words.specs.Relay.{RelayCourse}
@@ -18,7 +20,7 @@ use Rattle.ipdl_top.specs.declared.rendering.Rendering.{Rendering}
 use Rattle.ipdl_top.specs.declared.rendering.Rendering.TheVariants.{Chart, Summary, Transcript}
 use Rattle.ipdl_top.specs.declared.status.Status.{Status}
 use Rattle.ipdl_top.specs.declared.status.Status.TheVariants.{Done, Broken, Usage, ReadFault, WriteFault, Spent, NoMemory, BadScript, BadFrames, BadTranscript}
-use Rattle.ipdl_top.specs.CommandAnswer.{AnswersTo, IsAnswer, IsCompilation, SaysOf, SaysTables, usage_answer}
+use Rattle.ipdl_top.specs.CommandAnswer.{AnswersTo, IsAnswer, IsAnswerWithout, IsCompilation, SaysOf, SaysTables, table_answer, usage_answer}
 use Rattle.ipdl_top.specs.CommandFiles.{files_by, given_by, names_read, seen_by}
 use Rattle.ipdl_top.specs.declared.audit.outcome.Audit.{Audit}
 use Rattle.ipdl_top.specs.declared.audit.outcome.Audit.TheVariants as audits
@@ -29,6 +31,7 @@ use Rattle.ipdl_top.specs.Feed.{SaysFed, SaysFedOf, SaysFeed, feed_answer}
 use Rattle.ipdl_top.specs.Frames.{SaysBytes, SaysFrames, frames_answer, frames_out}
 use Rattle.ipdl_top.specs.FileViews.{FileViews, ForMap, steady}
 use Rattle.ipdl_top.specs.Gen.{case_course, case_files, holder_name, script_name}
+use Rattle.ipdl_top.specs.Help.{topic_text}
 use Rattle.ipdl_top.specs.Inputs.{SaysByFile, absent_answer, larger_answer}
 use Rattle.ipdl_top.specs.Relay.{Relaying, SaysRelay, SaysRelayed, halves_text}
 use Rattle.ipdl_top.specs.Run.{Driving, SaysHistory, SaysRun, run_answer}
@@ -178,27 +181,37 @@ of_command Gives Relays seen command answer h =
     let views = seen_by (files_by command) seen in
     compiled (SaysOf Gives Relays views command) (of_says Gives Relays views command) (given_by views.files names.path names.program) views.list names.list answer h
 
--- words that are no command have the usage answer
-pub of_no_command : (Gives : Driving) (Relays : Relaying) (seen : FileViews) (words : List (List ℕ)) (answer : CommandAnswer) → IsNoCommand words → IsAnswer Gives Relays seen words answer → answer ≡ usage_answer
-of_no_command Gives Relays seen words answer none (inl h) = absurd (none h.command h.said)
-of_no_command Gives Relays seen words answer none (inr h) = h.1
+-- the status of an answer to words that are no command
+without_status : (words : List (List ℕ)) (answer : CommandAnswer) → IsAnswerWithout words answer → (answer.status ≡ Done) ⊎ (answer.status ≡ Usage)
+without_status words answer (inl h) = inl (status_of answer (table_answer (topic_text h.0)) h.1.1)
+without_status words answer (inr h) = inr (status_of answer usage_answer h.1)
+
+-- words that mean nothing have the usage answer
+pub of_no_command : (Gives : Driving) (Relays : Relaying) (seen : FileViews) (words : List (List ℕ)) (answer : CommandAnswer) → MeanNothing words → IsAnswer Gives Relays seen words answer → answer ≡ usage_answer
+of_no_command Gives Relays seen words answer none (inl h) = absurd (none.0 h.command h.said)
+of_no_command Gives Relays seen words answer none (inr h) = ⊎_elim (λ (k : (topic : Topic) × Asks words topic × (answer ≡ table_answer (topic_text topic))). absurd (none.1 k.0 k.1.0)) (λ k. k.1) h.1
 
 -- and no others have it
-pub no_command_of : (Gives : Driving) (Relays : Relaying) (seen : FileViews) (words : List (List ℕ)) (answer : CommandAnswer) → answer.status ≡ Usage → IsAnswer Gives Relays seen words answer → IsNoCommand words
+pub no_command_of : (Gives : Driving) (Relays : Relaying) (seen : FileViews) (words : List (List ℕ)) (answer : CommandAnswer) → answer.status ≡ Usage → IsAnswer Gives Relays seen words answer → MeanNothing words
 no_command_of Gives Relays seen words answer usage (inl h) = absurd (true≢false (sym (of_command Gives Relays seen h.command answer h.answers) ∙ ap is_said usage))
-no_command_of Gives Relays seen words answer usage (inr h) = h.0
+no_command_of Gives Relays seen words answer usage (inr (none, inl h)) = absurd (let both : Done ≡ Usage = sym (status_of answer (table_answer (topic_text h.0)) h.1.1) ∙ usage in cc)
+no_command_of Gives Relays seen words answer usage (inr (none, inr h)) = (none, h.0)
+
+-- and no other status
+not_without : (status : Status) (words : List (List ℕ)) (answer : CommandAnswer) → IsAnswerWithout words answer → answer.status ≡ status → (Done ≡ status → ⊥) → (Usage ≡ status → ⊥) → ⊥
+not_without status words answer h e not_done not_usage = ⊎_elim (λ done. not_done (sym done ∙ e)) (λ usage. not_usage (sym usage ∙ e)) (without_status words answer h)
 
 -- an answer does not say that a read failed or that memory ran out
 pub no_failure : (Gives : Driving) (Relays : Relaying) (seen : FileViews) (words : List (List ℕ)) (answer : CommandAnswer) → IsAnswer Gives Relays seen words answer → (answer.status ≡ ReadFault) ⊎ (answer.status ≡ NoMemory) → ⊥
 no_failure Gives Relays seen words answer (inl h) (inl e) = true≢false (sym (of_command Gives Relays seen h.command answer h.answers) ∙ ap is_said e)
 no_failure Gives Relays seen words answer (inl h) (inr e) = true≢false (sym (of_command Gives Relays seen h.command answer h.answers) ∙ ap is_said e)
-no_failure Gives Relays seen words answer (inr h) (inl e) = let both : Usage ≡ ReadFault = sym (status_of answer usage_answer h.1) ∙ e in cc
-no_failure Gives Relays seen words answer (inr h) (inr e) = let both : Usage ≡ NoMemory = sym (status_of answer usage_answer h.1) ∙ e in cc
+no_failure Gives Relays seen words answer (inr h) (inl e) = not_without ReadFault words answer h.1 e (λ is. cc) (λ is. cc)
+no_failure Gives Relays seen words answer (inr h) (inr e) = not_without NoMemory words answer h.1 e (λ is. cc) (λ is. cc)
 
 -- nor that a write failed
 pub no_write_failure : (Gives : Driving) (Relays : Relaying) (seen : FileViews) (words : List (List ℕ)) (answer : CommandAnswer) → IsAnswer Gives Relays seen words answer → answer.status ≡ WriteFault → ⊥
 no_write_failure Gives Relays seen words answer (inl h) e = true≢false (sym (of_command Gives Relays seen h.command answer h.answers) ∙ ap is_said e)
-no_write_failure Gives Relays seen words answer (inr h) e = let both : Usage ≡ WriteFault = sym (status_of answer usage_answer h.1) ∙ e in cc
+no_write_failure Gives Relays seen words answer (inr h) e = not_without WriteFault words answer h.1 e (λ is. cc) (λ is. cc)
 
 -- such an answer is given if no read failed
 pub no_read_failed : (status : Status) (old new : List ReadEntry) → status ≢ ReadFault → HaveSucceeded old new → IsStatusOfReads status old new

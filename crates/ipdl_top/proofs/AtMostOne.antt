@@ -36,7 +36,10 @@ use Rattle.sync_list.specs.declared.list.Section.{Section}
 use Rattle.sync_list.specs.Lists.{IsListOf}
 use Rattle.sync_list.specs.Laws.{OneList}
 use Rattle.ipdl_top.specs.declared.answer.CommandAnswer.{CommandAnswer}
-use Rattle.ipdl_top.specs.CommandAnswer.{IsBrokenFile, BreaksRules, IsFileReport, IsReading, IsRuleReport, IsSaidOf, IsCompilation, AnswersTo, SaysOf, SaysTables, table_answer}
+use Rattle.command_words.specs.declared.topic.Topic.{Topic}
+use Rattle.command_words.proofs.OneTopic.{one_topic}
+use Rattle.ipdl_top.specs.Help.{topic_text}
+use Rattle.ipdl_top.specs.CommandAnswer.{IsBrokenFile, BreaksRules, IsFileReport, IsReading, IsRuleReport, IsSaidOf, IsAnswerWithout, IsCompilation, AnswersTo, SaysOf, SaysTables, table_answer}
 use Rattle.ipdl_top.specs.CommandFiles.{files_by, given_by, names_read, seen_by}
 use Rattle.ipdl_top.specs.declared.status.Status.TheVariants.{BadFrames, Broken, Spent}
 use Rattle.ipdl_top.specs.Audit.{SaysAudit}
@@ -276,6 +279,13 @@ commands laws Gives Relays seen command one other leaves x y =
     let views = seen_by (files_by command) seen in
     compilations_such laws (LeavesNone command) (SaysOf Gives Relays views command) (says_one laws Gives Relays views command) (given_by views.files names.path names.program) views.list names.list one other leaves x y
 
+-- words that are no command have one answer
+without_command : (words : List (List ℕ)) (one other : CommandAnswer) → IsAnswerWithout words one → IsAnswerWithout words other → one ≡ other
+without_command words one other (inl x) (inl y) = x.1.1 ∙ ap (λ (topic : Topic). table_answer (topic_text topic)) (one_topic words x.0 y.0 x.1.0 y.1.0) ∙ sym y.1.1
+without_command words one other (inl x) (inr y) = absurd (y.0 x.0 x.1.0)
+without_command words one other (inr x) (inl y) = absurd (x.0 y.0 y.1.0)
+without_command words one other (inr x) (inr y) = x.1 ∙ sym y.1
+
 -- words are one command at most
 pub answer_is_determined : TheLaws → (Gives : Driving) (Relays : Relaying) → OneAnswer Gives Relays
 answer_is_determined laws Gives Relays seen words one other leaves (inl x) (inl y) =
@@ -283,4 +293,4 @@ answer_is_determined laws Gives Relays seen words one other leaves (inl x) (inl 
     commands laws Gives Relays seen x.command one other (leaves_none words x.command one x.said leaves) x.answers (subst (λ (command : CommandView). AnswersTo Gives Relays seen command other) same y.answers)
 answer_is_determined laws Gives Relays seen words one other leaves (inl x) (inr y) = absurd (y.0 x.command x.said)
 answer_is_determined laws Gives Relays seen words one other leaves (inr x) (inl y) = absurd (x.0 y.command y.said)
-answer_is_determined laws Gives Relays seen words one other leaves (inr x) (inr y) = x.1 ∙ sym y.1
+answer_is_determined laws Gives Relays seen words one other leaves (inr x) (inr y) = without_command words one other x.1 y.1

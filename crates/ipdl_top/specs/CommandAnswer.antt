@@ -6,6 +6,8 @@ use Rattle.ipdl_base.specs.declared.finding.Report.{Report}
 use Rattle.ipdl_base.specs.declared.schema.Schema.{Schema}
 use Rattle.ipdl_syntax.specs.declared.program.Entry.{Entry}
 use Rattle.ipdl_syntax.specs.Programs.{IsProgram}
+use Rattle.command_words.specs.declared.topic.Topic.{Topic}
+use Rattle.command_words.specs.Topics.{Asks, AskNothing}
 use Rattle.command_words.specs.Command.{CommandView, IsNoCommand, Say, audit, chart, compile, explore, feed, frames, gen, relay, run, waits}
 use Rattle.findings.specs.Report.{IsReport}
 use Rattle.include_graph.specs.Load.{IsProgramOf}
@@ -28,6 +30,7 @@ use Rattle.ipdl_top.specs.Explore.{SaysExplore}
 use Rattle.ipdl_top.specs.Feed.{SaysFeed}
 use Rattle.ipdl_top.specs.Frames.{SaysFrames}
 use Rattle.ipdl_top.specs.Gen.{SaysGen}
+use Rattle.ipdl_top.specs.Help.{topic_text}
 use Rattle.ipdl_top.specs.Lists.{IsFaultOfList, AreSections, list_names}
 use Rattle.ipdl_top.specs.Relay.{Relaying, SaysRelay}
 use Rattle.ipdl_top.specs.Report.{TellsReport}
@@ -131,6 +134,10 @@ pub record IsCommandAnswer (Gives : Driving) (Relays : Relaying) (seen : FileVie
   pub said : Say words command
   pub answers : AnswersTo Gives Relays seen command answer
 
--- The answer to words, with these files: that of the command that they are, or how the program is called if they are not a command.
+-- The answer to words that are no command: the text on what they ask about, or how the program is called.
+abbrev pub IsAnswerWithout : List (List ℕ) → CommandAnswer → Type 0
+IsAnswerWithout words answer = ((topic : Topic) × Asks words topic × (answer ≡ table_answer (topic_text topic))) ⊎ (AskNothing words × (answer ≡ usage_answer))
+
+-- The answer to words, with these files: that of the command that they are, or that of no command.
 abbrev pub IsAnswer : Driving → Relaying → FileViews → List (List ℕ) → CommandAnswer → Type 0
-IsAnswer Gives Relays seen words answer = IsCommandAnswer Gives Relays seen words answer ⊎ (IsNoCommand words × (answer ≡ usage_answer))
+IsAnswer Gives Relays seen words answer = IsCommandAnswer Gives Relays seen words answer ⊎ (IsNoCommand words × IsAnswerWithout words answer)

@@ -13,6 +13,7 @@ pub mod Gen
 pub mod Feed
 pub mod Explore
 pub mod Command
+pub mod Help
 pub mod Laws
 pub mod Lists
 pub mod Outcome

@@ -1,14 +1,16 @@
 //! What the program answers.
 ghost use Rattle.std.specs.Prelude.{◌≡◌, IfOk, IsOkUnless};
 
+use crate::help::text_on;
 use crate::report::text_of_report;
 use crate::status::Status;
+use command_words::Topic;
 use ipdl_base::{Failure, Items, Report};
 use std::alloc::{AllocError, Global};
 
 /// How the program is called.
 const USAGE: &[u8] =
-    b"usage: ipdl [-s LIST] [--path DIRS] FILES\n       ipdl run [-s LIST] [--path DIRS] [--schedule WORD] [--limit N] [--die SIDE:K] SCRIPT FILE\n       ipdl frames [-s LIST] [--path DIRS] [--to 2] FILE FRAMES\n       ipdl waits [-s LIST] [--path DIRS] FILE\n       ipdl gen [--actors A] N\n       ipdl feed [-s LIST] [--path DIRS] [--limit N] --side SIDE SCRIPT FILE FRAMES\n       ipdl audit [-s LIST] [--path DIRS] [--limit N] SCRIPT FILE TRANSCRIPT\n       ipdl relay [-s LIST] [--path DIRS] [--die SIDE:K] [--limit N] SCRIPT FILE\n       ipdl chart [-s LIST] [--path DIRS] [--schedule WORD] [--limit N] [--die SIDE:K] SCRIPT FILE\n       ipdl explore [-s LIST] [--path DIRS] [--limit N] [--ways M] SCRIPT FILE\n";
+    b"usage: ipdl [-s LIST] [--path DIRS] FILES\n       ipdl run [-s LIST] [--path DIRS] [--schedule WORD] [--limit N] [--die SIDE:K] SCRIPT FILE\n       ipdl frames [-s LIST] [--path DIRS] [--to 2] FILE FRAMES\n       ipdl gen [--actors A] N\n       ipdl feed [-s LIST] [--path DIRS] [--limit N] --side SIDE SCRIPT FILE FRAMES\n       ipdl relay [-s LIST] [--path DIRS] [--die SIDE:K] [--limit N] SCRIPT FILE\n       ipdl audit [-s LIST] [--path DIRS] [--limit N] SCRIPT FILE TRANSCRIPT\n       ipdl waits [-s LIST] [--path DIRS] FILE\n       ipdl chart [-s LIST] [--path DIRS] [--schedule WORD] [--limit N] [--die SIDE:K] SCRIPT FILE\n       ipdl explore [-s LIST] [--path DIRS] [--limit N] [--ways M] SCRIPT FILE\n       ipdl help [COMMAND]\n       ipdl version\n";
 
 /// What the program answers: how it ends, and the texts that it writes.
 #[derive(Debug, Drop)]
@@ -24,6 +26,7 @@ pub struct CommandAnswer {
 impl CommandAnswer {
     ghost use Rattle.ipdl_top.specs.CommandAnswer.{table_answer, usage_answer};
     ghost use Rattle.ipdl_top.specs.Report.{broken_answer};
+    ghost use Rattle.ipdl_top.specs.Help.{topic_text};
     ghost use Rattle.ipdl_top.specs.Inputs.{bad_input_answer};
 
     /// Returns the answer of a command that did its work: this text.
@@ -66,7 +69,18 @@ impl CommandAnswer {
         })
     }
 
-    /// Returns the answer to words that are not a command: how the program is called. Fails only if memory runs out.
+    /// Returns the answer to words that ask for help or for the version: the text on what they ask about. Fails only if memory
+    /// runs out.
+    pub fn of_topic(alloc: Global, topic: Topic) -> Result<CommandAnswer, Failure>
+        ensures answer { IfOk result (λ answer. answer ≡ table_answer (topic_text topic)) }
+        ensures memory { IsOkUnless result Failure.NoMemory }
+    {
+        let text = Vec::from_slice(alloc, text_on(topic).as_bytes())?;
+        Ok(CommandAnswer::of_table(alloc, text))
+    }
+
+    /// Returns the answer to words that are not a command and do not ask for help: how the program is called. Fails only if memory
+    /// runs out.
     pub fn of_no_command(alloc: Global) -> Result<CommandAnswer, Failure>
         ensures answer { IfOk result (λ answer. answer ≡ usage_answer) }
         ensures memory { IsOkUnless result Failure.NoMemory }

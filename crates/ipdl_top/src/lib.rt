@@ -13,6 +13,7 @@ mod explore;
 mod feed;
 mod frames;
 mod generation;
+mod help;
 mod input_file;
 mod laws;
 mod list;

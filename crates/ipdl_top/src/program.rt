@@ -1,11 +1,12 @@
 //! The program: it reads its words, then the files that they name, and writes the answer.
-ghost use Rattle.std.specs.Prelude.{◌≡◌, ◌≢◌, ◌⊎◌, ℕ, Err, IfOk, List, map, string_bytes};
+ghost use Rattle.std.specs.Prelude.{◌≡◌, ◌≢◌, ◌⊎◌, ℕ, Err, IfOk, IsOkUnless, List, map, string_bytes};
 ghost use Rattle.command_words.specs.Command.{CommandOf, IsNoCommand, gen, view_of};
 ghost use Rattle.command_words.specs.Gen.{IsGen};
+ghost use Rattle.command_words.specs.Topics.{MeanNothing};
 ghost use Rattle.file_log.specs.Log.{EndsWithReads};
 ghost use Rattle.file_log.specs.Recorded.{files_of, reads_of};
 ghost use Rattle.ipdl_base.specs.Outside.{Rose};
-ghost use Rattle.ipdl_top.specs.CommandAnswer.{AnswersTo, IsAnswer, usage_answer};
+ghost use Rattle.ipdl_top.specs.CommandAnswer.{AnswersTo, IsAnswer, IsAnswerWithout, usage_answer};
 ghost use Rattle.ipdl_top.specs.FileViews.{ForMap, ForViews};
 ghost use Rattle.ipdl_top.specs.Outcome.{IsOutcome, IsOutcomeOfReads, IsStatusOfReads};
 ghost use Rattle.ipdl_top.specs.CommandFiles.{generated};
@@ -19,7 +20,7 @@ use crate::generation::read_case;
 use crate::reading::{FoundFiles, read_named};
 use crate::status::Status;
 use crate::write::write_answer;
-use command_words::{Command, WordsFault, one_command, read_words};
+use command_words::{Command, WordsFault, one_command, read_words, topic_of};
 use file_log::RecordedFiles;
 use ipdl_base::{Failure, Files, Sink};
 use std::alloc::Global;
@@ -69,6 +70,17 @@ fn answer_by_files<F: Files, D: Driver, Q: Relay>(
     Ok(answer_command(alloc, command, found, driver, relay)?)
 }
 
+/// Answers words that are not a command: they ask for help or for the version, or mean nothing. Fails only if memory runs out.
+fn answer_without_command(alloc: Global, words: &[String]) -> Result<CommandAnswer, Failure>
+    ensures answer { IfOk result (IsAnswerWithout (map string_bytes words.now)) }
+    ensures memory { IsOkUnless result Failure.NoMemory }
+{
+    match topic_of(words) {
+        Some(topic) => CommandAnswer::of_topic(alloc, topic),
+        None => CommandAnswer::of_no_command(alloc),
+    }
+}
+
 /// Answers the words of a call: reads them as a command, and answers the command. Words that are not a command have an answer too.
 fn answer_to<F: Files, D: Driver, Q: Relay>(
     alloc: Global,
@@ -90,7 +102,7 @@ fn answer_to<F: Files, D: Driver, Q: Relay>(
     one_command();
     match read_words(alloc, words) {
         Ok(command) => answer_by_files(alloc, &command, files, driver, relay),
-        Err(WordsFault::Usage) => CommandAnswer::of_no_command(alloc),
+        Err(WordsFault::Usage) => answer_without_command(alloc, words),
         Err(WordsFault::NoMemory) => Err(Failure::NoMemory),
     }
 }
@@ -109,9 +121,9 @@ pub fn ipdl<F: Files, O: Sink, E: Sink, D: Driver, Q: Relay>(
     requires ready { D.ready driver.old }
     requires relay_ready { Q.ready relay.old }
 
-    // The status is Usage exactly if the words are not a command, unless a write fails or memory runs out.
-    ensures usage { result ≡ Status.Usage → IsNoCommand (map string_bytes words.now) }
-    ensures no_command { IsNoCommand (map string_bytes words.now) →
+    // The status is Usage exactly if the words are not a command and ask for nothing, unless a write fails or memory runs out.
+    ensures usage { result ≡ Status.Usage → MeanNothing (map string_bytes words.now) }
+    ensures no_command { MeanNothing (map string_bytes words.now) →
         (result ≡ Status.Usage) ⊎ ((result ≡ Status.WriteFault) ⊎ (result ≡ Status.NoMemory)) }
     ensures usage_text { result ≡ Status.Usage → WritesAll usage_answer
         (record { old = O.written out.old; new = O.written out.new })

@@ -4,6 +4,7 @@ use Rattle.answer_existence.proofs.laws.one_answer.Goals as goal
 pub returns : goal.returns
 returns g c = law.exactly_one_answer (record {
   words = c.words_are_decided.ensures;
+  asking = c.asking_is_decided.ensures;
   compilation = record {
     reaches = c.reaches_exist.ensures;
     findings = c.findings_are_listed.ensures;

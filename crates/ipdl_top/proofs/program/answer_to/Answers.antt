@@ -21,4 +21,4 @@ returns-in-Ok-clause-reads g c =
 pub returns-in-Err-Usage-clause-reads : goal.returns-in-Err-Usage-clause-reads
 returns-in-Err-Usage-clause-reads g c =
     let none = c.in-Err-Usage.ensures.usage c.in-Err-Usage.field-0-is in
-    IfOk-weaker c.of_no_command.result _ _ (λ answer says. no_views _ _ _ (λ seen. inr (none, says))) c.of_no_command.ensures.answer
+    IfOk-weaker c.answer_without_command.result _ _ (λ answer says. no_views _ _ _ (λ seen. inr (none, says))) c.answer_without_command.ensures.answer
