@@ -1,0 +1,25 @@
+# fish completion for ipdl
+
+set -l commands run frames gen feed relay audit waits chart explore help version
+
+complete -c ipdl -n "not __fish_seen_subcommand_from $commands" -a run -d "Runs a script at both ends, and prints the history"
+complete -c ipdl -n "not __fish_seen_subcommand_from $commands" -a frames -d "Prints the messages in a file of frames"
+complete -c ipdl -n "not __fish_seen_subcommand_from $commands" -a gen -d "Runs a case that it makes itself, and prints a summary"
+complete -c ipdl -n "not __fish_seen_subcommand_from $commands" -a feed -d "Runs one end on a file of frames"
+complete -c ipdl -n "not __fish_seen_subcommand_from $commands" -a relay -d "Runs both ends over two queues of bytes"
+complete -c ipdl -n "not __fish_seen_subcommand_from $commands" -a audit -d "Says whether a run of a script may print a text"
+complete -c ipdl -n "not __fish_seen_subcommand_from $commands" -a waits -d "Lists which messages may be handled while one is waited for"
+complete -c ipdl -n "not __fish_seen_subcommand_from $commands" -a chart -d "Draws the history of a run as an SVG document"
+complete -c ipdl -n "not __fish_seen_subcommand_from $commands" -a explore -d "Lists every way in which a script may go"
+complete -c ipdl -n "not __fish_seen_subcommand_from $commands" -a help -d "Prints the words of a command and an example"
+complete -c ipdl -n "not __fish_seen_subcommand_from $commands" -a version -d "Prints the version of ipdl"
+complete -c ipdl -n "__fish_seen_subcommand_from help" -f -a "compile run frames gen feed relay audit waits chart explore"
+complete -c ipdl -n "not __fish_seen_subcommand_from gen help version" -s s -l sync-msg-list -r -d "The file that lists the messages that may be sync"
+complete -c ipdl -n "not __fish_seen_subcommand_from gen help version" -l path -r -d "The folders in which included files are searched"
+complete -c ipdl -n "__fish_seen_subcommand_from run chart" -l schedule -x -d "Whose turn it is"
+complete -c ipdl -n "__fish_seen_subcommand_from run chart feed relay audit explore" -l limit -x -d "The most events of each end"
+complete -c ipdl -n "__fish_seen_subcommand_from run chart relay" -l die -x -a "parent: child:" -d "The end of this side dies once it has so many events"
+complete -c ipdl -n "__fish_seen_subcommand_from frames" -l to -x -a 2 -d "Writes frames of the new layout"
+complete -c ipdl -n "__fish_seen_subcommand_from gen" -l actors -x -d "The number of actors"
+complete -c ipdl -n "__fish_seen_subcommand_from feed" -l side -x -a "parent child" -d "The side of the end"
+complete -c ipdl -n "__fish_seen_subcommand_from explore" -l ways -x -d "The most ways that are listed"
