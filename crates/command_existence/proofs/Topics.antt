@@ -81,8 +81,8 @@ HelpLast word other = Named word × IsHelpFlag other
 
 both : (P Q : Type 0) → P ⊎ (P → ⊥) → Q ⊎ (Q → ⊥) → (P × Q) ⊎ (P × Q → ⊥)
 both P Q (inl p) (inl q) = inl (p, q)
-both P Q (inl p) (inr no) = inr (λ h. no h.1)
-both P Q (inr no) q = inr (λ h. no h.0)
+both P Q (inl p) (inr never) = inr (λ h. never h.1)
+both P Q (inr never) q = inr (λ h. never h.0)
 
 of_both : (word other : Text) → ((topic : Topic) × Asks (word ∷ other ∷ []) topic) ⊎ AskNothing (word ∷ other ∷ [])
 of_both word other =

@@ -4,7 +4,6 @@ use Rattle.std.specs.Str.{bytes_eq}
 use Rattle.std.proofs.lemmas.Option.{same_Some}
 use Rattle.command_words.specs.declared.topic.CommandName.{CommandName}
 use Rattle.command_words.specs.declared.topic.CommandName.TheVariants as names
-use Rattle.command_words.specs.declared.topic.Topic.{Topic}
 use Rattle.command_words.specs.declared.topic.Topic.TheVariants.{Program, Command, Version}
 use Rattle.command_words.specs.Topics.{Asks, IsHelpFlag, IsVersionWord, OneTopic, help_word, name_of}
 

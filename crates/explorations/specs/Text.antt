@@ -2,29 +2,18 @@
 use Rattle.std.specs.Prelude.{ℕ, ◌==◌, Bool, true, false, if◌then◌else◌, List, [], ◌∷◌, ◌++◌, length, map, codes}
 use Rattle.std.specs.Fmt.{decimal}
 use Rattle.std.specs.List.{flat_map}
+use Rattle.command_words.specs.RunOptions.{letter_of}
 use Rattle.history.specs.Words.{side_word}
-use Rattle.ipdl_base.specs.declared.kinds.Side.{Side}
-use Rattle.ipdl_base.specs.declared.kinds.Side.TheVariants as sides
 use Rattle.schedules.specs.declared.turn.Turn.{Turn}
 use Rattle.script_steps.specs.Turns.{RunEnding, at_rest, at_limit}
 use Rattle.explorations.specs.Explorations.{Exploration, Way}
-
--- the letter of a turn: a capital one, and a small one for a delivery alone
-abbrev pub letter_for : Bool → Side → ℕ
-letter_for false sides.Parent = 80
-letter_for false sides.Child = 67
-letter_for true sides.Parent = 112
-letter_for true sides.Child = 99
-
-abbrev pub letter_of : Turn → ℕ
-letter_of turn = letter_for turn.only_deliver turn.side
 
 -- the words that report how a run ends
 abbrev pub ending_words : RunEnding → List ℕ
 ending_words at_rest = codes "finished"
 ending_words (at_limit side) = codes "spent " ++ side_word side
 
--- a blank and the letters of a word, or nothing if it has no letter
+-- a blank and the letters of a word, as `--schedule` takes them, or nothing if it has no letter
 abbrev pub word_text : List Turn → List ℕ
 word_text [] = []
 word_text (turn ∷ word) = codes " " ++ map letter_of (turn ∷ word)

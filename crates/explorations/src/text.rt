@@ -1,6 +1,7 @@
 //! The text of an exploration (docs/explore.md).
 ghost use Rattle.std.specs.Prelude.{◌≡◌, ◌++◌, IfOk, OnOk, map};
 ghost use Rattle.std.specs.List.{flat_map};
+ghost use Rattle.command_words.specs.RunOptions.{letter_of};
 ghost use Rattle.explorations.specs.Seen.{ending_of, exploration_seen, way_seen};
 ghost use Rattle.explorations.specs.Text as text;
 
@@ -16,9 +17,9 @@ const LINE_LENGTH: usize = 14;
 /// A length that the last line does not pass.
 const LAST_LINE_LENGTH: usize = 40;
 
-/// Returns the letter of a turn.
+/// Returns the letter of a turn, as `--schedule` takes it.
 fn letter(turn: Turn) -> u8
-    ensures { result ≡ text.letter_of turn }
+    ensures { result ≡ letter_of turn }
 {
     match (turn.only_deliver, turn.side) {
         (false, Side::Parent) => b'P',
@@ -30,7 +31,7 @@ fn letter(turn: Turn) -> u8
 
 /// Appends the letters of turns.
 fn push_letters(out: &mut Vec<u8>, word: &[Turn]) -> Result<(), AllocError>
-    ensures { OnOk result (out.new.items ≡ out.old.items ++ map text.letter_of word.now) }
+    ensures { OnOk result (out.new.items ≡ out.old.items ++ map letter_of word.now) }
 {
     for turn in word {
         out.push(letter(*turn))?;

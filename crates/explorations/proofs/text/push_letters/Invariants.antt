@@ -1,5 +1,5 @@
 use Rattle.std.proofs.Common.{◌≡◌, ◌++◌, drop, map}
-use Rattle.explorations.specs.Text.{letter_of}
+use Rattle.command_words.specs.RunOptions.{letter_of}
 use Rattle.explorations.proofs.text.push_letters.Given as goal
 
 -- what is written and the letters of what is left
