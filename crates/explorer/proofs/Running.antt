@@ -6,6 +6,7 @@ use Rattle.channel_model.specs.Runs.{RunState}
 use Rattle.schedules.specs.declared.turn.Turn.{Turn}
 use Rattle.script_steps.specs.Choices.{Setting}
 use Rattle.script_steps.specs.Turns.{exceeds, idles, leads, outcome}
+use Rattle.explorations.proofs.Points.{point-by}
 use Rattle.explorations.specs.Words.{Point, point_from}
 use Rattle.world_core.specs.declared.answers.StepAnswer.{StepAnswer}
 use Rattle.world_core.specs.declared.answers.StepAnswer.TheVariants as answer

@@ -8,19 +8,19 @@ use Rattle.ipdl_top.specs.declared.help.TheConstants.{PROGRAM_HELP, VERSION, COM
 
 -- the words of a command, what it does with them, and an example
 abbrev pub help_on : CommandName → List ℕ
-help_on names.Compile = COMPILE_HELP
-help_on names.Run = RUN_HELP
-help_on names.Frames = FRAMES_HELP
-help_on names.Gen = GEN_HELP
-help_on names.Feed = FEED_HELP
-help_on names.Relay = RELAY_HELP
-help_on names.Audit = AUDIT_HELP
-help_on names.Waits = WAITS_HELP
-help_on names.Chart = CHART_HELP
-help_on names.Explore = EXPLORE_HELP
+help_on names.Compile = (COMPILE_HELP).now
+help_on names.Run = (RUN_HELP).now
+help_on names.Frames = (FRAMES_HELP).now
+help_on names.Gen = (GEN_HELP).now
+help_on names.Feed = (FEED_HELP).now
+help_on names.Relay = (RELAY_HELP).now
+help_on names.Audit = (AUDIT_HELP).now
+help_on names.Waits = (WAITS_HELP).now
+help_on names.Chart = (CHART_HELP).now
+help_on names.Explore = (EXPLORE_HELP).now
 
 -- the text on what words ask about
 abbrev pub topic_text : Topic → List ℕ
-topic_text Program = PROGRAM_HELP
+topic_text Program = (PROGRAM_HELP).now
 topic_text (Command name) = help_on name
-topic_text Version = VERSION
+topic_text Version = (VERSION).now
