@@ -91,7 +91,7 @@ module _ (laws : AnswerLaws) (Gives : Driving) (Relays : Relaying) (seen : FileV
 
   -- Words that are no command have an answer.
   without_command : (words : List (List ℕ)) → (answer : CommandAnswer) × IsAnswerWithout words answer
-  without_command words = ⊎_elim (λ asked. (table_answer (topic_text asked.0), inl (asked.0, (asked.1, refl)))) (λ nothing. (usage_answer, inr (nothing, refl))) (laws.asking words)
+  without_command words = ⊎_elim (λ asked. (table_answer (topic_text asked.0), inl (asked.0, asked.1, refl))) (λ nothing. (usage_answer, inr (nothing, refl))) (laws.asking words)
 
   has_answer : (words : List (List ℕ)) → AllByRecursion IsUtf8 words → Drives words → (answer : CommandAnswer) × IsAnswer Gives Relays seen words answer
   has_answer words texts drives =

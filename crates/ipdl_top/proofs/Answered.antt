@@ -183,18 +183,18 @@ of_command Gives Relays seen command answer h =
 
 -- the status of an answer to words that are no command
 without_status : (words : List (List ℕ)) (answer : CommandAnswer) → IsAnswerWithout words answer → (answer.status ≡ Done) ⊎ (answer.status ≡ Usage)
-without_status words answer (inl h) = inl (status_of answer (table_answer (topic_text h.0)) h.1.1)
+without_status words answer (inl h) = inl (status_of answer (table_answer (topic_text h.0)) h.2)
 without_status words answer (inr h) = inr (status_of answer usage_answer h.1)
 
 -- words that mean nothing have the usage answer
 pub of_no_command : (Gives : Driving) (Relays : Relaying) (seen : FileViews) (words : List (List ℕ)) (answer : CommandAnswer) → MeanNothing words → IsAnswer Gives Relays seen words answer → answer ≡ usage_answer
 of_no_command Gives Relays seen words answer none (inl h) = absurd (none.0 h.command h.said)
-of_no_command Gives Relays seen words answer none (inr h) = ⊎_elim (λ (k : (topic : Topic) × Asks words topic × (answer ≡ table_answer (topic_text topic))). absurd (none.1 k.0 k.1.0)) (λ k. k.1) h.1
+of_no_command Gives Relays seen words answer none (inr h) = ⊎_elim (λ (k : (topic : Topic) × Asks words topic × (answer ≡ table_answer (topic_text topic))). absurd (none.1 k.0 k.1)) (λ k. k.1) h.1
 
 -- and no others have it
 pub no_command_of : (Gives : Driving) (Relays : Relaying) (seen : FileViews) (words : List (List ℕ)) (answer : CommandAnswer) → answer.status ≡ Usage → IsAnswer Gives Relays seen words answer → MeanNothing words
 no_command_of Gives Relays seen words answer usage (inl h) = absurd (true≢false (sym (of_command Gives Relays seen h.command answer h.answers) ∙ ap is_said usage))
-no_command_of Gives Relays seen words answer usage (inr (none, inl h)) = absurd (let both : Done ≡ Usage = sym (status_of answer (table_answer (topic_text h.0)) h.1.1) ∙ usage in cc)
+no_command_of Gives Relays seen words answer usage (inr (none, inl h)) = absurd (let both : Done ≡ Usage = sym (status_of answer (table_answer (topic_text h.0)) h.2) ∙ usage in cc)
 no_command_of Gives Relays seen words answer usage (inr (none, inr h)) = (none, h.0)
 
 -- and no other status

@@ -281,9 +281,9 @@ commands laws Gives Relays seen command one other leaves x y =
 
 -- words that are no command have one answer
 without_command : (words : List (List ℕ)) (one other : CommandAnswer) → IsAnswerWithout words one → IsAnswerWithout words other → one ≡ other
-without_command words one other (inl x) (inl y) = x.1.1 ∙ ap (λ (topic : Topic). table_answer (topic_text topic)) (one_topic words x.0 y.0 x.1.0 y.1.0) ∙ sym y.1.1
-without_command words one other (inl x) (inr y) = absurd (y.0 x.0 x.1.0)
-without_command words one other (inr x) (inl y) = absurd (x.0 y.0 y.1.0)
+without_command words one other (inl x) (inl y) = x.2 ∙ ap (λ (topic : Topic). table_answer (topic_text topic)) (one_topic words x.0 y.0 x.1 y.1) ∙ sym y.2
+without_command words one other (inl x) (inr y) = absurd (y.0 x.0 x.1)
+without_command words one other (inr x) (inl y) = absurd (x.0 y.0 y.1)
 without_command words one other (inr x) (inr y) = x.1 ∙ sym y.1
 
 -- words are one command at most
