@@ -40,7 +40,7 @@ spent child PcCCPPC
 spent child PcCCPC
 spent child PcCCC
 spent parent CpPPP
-spent parent CpPPPCP
+spent parent CpPPCP
 spent parent CpPPCCP
 8 ways
 @ ====
