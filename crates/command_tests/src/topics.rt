@@ -145,7 +145,13 @@ explore|explore [-s LIST] [--path DIRS] [--limit N] [--ways M] SCRIPT FILE";
 /// Notes a call whose status is not 0, that writes to `err`, or whose text does not begin so.
 fn check_call(alloc: Global, words: &str, begins: &str, wrong: &mut String) -> Result<(), Fail> {
     let files = MemoryFiles::new(Vec::new(alloc), Vec::new(alloc));
-    let left = call_on(alloc, words, files, sink(alloc, 1000, 0)?, sink(alloc, 1000, 0)?)?;
+    let left = call_on(
+        alloc,
+        words,
+        files,
+        sink(alloc, 1000, 0)?,
+        sink(alloc, 1000, 0)?,
+    )?;
     if !left.says(begins.as_bytes()) {
         writeln!(wrong, "{words}")?;
     }

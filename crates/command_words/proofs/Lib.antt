@@ -23,3 +23,4 @@ pub mod RelayFound
 pub mod ExploreFound
 pub mod OneCommand
 pub mod OneTopic
+mod Asking

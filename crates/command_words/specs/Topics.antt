@@ -52,3 +52,7 @@ MeanNothing words = IsNoCommand words × AskNothing words
 -- words ask about one thing at most
 abbrev pub OneTopic : Type 0
 OneTopic = (words : List (List ℕ)) (one other : Topic) → Asks words one → Asks words other → one ≡ other
+
+-- words that ask about something are no command
+abbrev pub AskingIsNoCommand : Type 0
+AskingIsNoCommand = (words : List (List ℕ)) (topic : Topic) → Asks words topic → IsNoCommand words

@@ -29,7 +29,7 @@ pub use explore::ExploreOptions;
 pub use fault::WordsFault;
 pub use feed::FeedOptions;
 pub use frames::FramesOptions;
-pub use laws::one_command;
+pub use laws::{asking_is_no_command, one_command};
 pub use relay::RelayOptions;
 pub use run::RunOptions;
 pub use topic::{CommandName, Topic, topic_of};
