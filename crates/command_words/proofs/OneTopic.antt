@@ -45,18 +45,6 @@ help_is_no_name : named help_word ≡ None
 unfolding named
 help_is_no_name = refl
 
-long_flag_is_no_name : named (codes "--help") ≡ None
-unfolding named
-long_flag_is_no_name = refl
-
-flag_is_no_name : named (codes "-h") ≡ None
-unfolding named
-flag_is_no_name = refl
-
-no_flag : (word : List ℕ) (name : CommandName) → IsHelpFlag word → word ≡ name_of name → ⊥
-no_flag word name (inl flag) is = no_name (codes "--help") name long_flag_is_no_name (sym flag ∙ is)
-no_flag word name (inr flag) is = no_name (codes "-h") name flag_is_no_name (sym flag ∙ is)
-
 no_help : (word : List ℕ) (name : CommandName) → word ≡ help_word → word ≡ name_of name → ⊥
 no_help word name help is = no_name help_word name help_is_no_name (sym help ∙ is)
 

@@ -1,20 +1,20 @@
 -- A script has an exploration, if only short words lead somewhere and it is decided which points are alike.
 use Rattle.std.proofs.Common.{◌≡◌, ◌⊎◌, ◌↔◌, ℕ, ◌<◌, ◌≤◌, true, false, List, [], ◌∷◌, ◌++◌, Any, Contains, length, Option, Some, None, refl, sym, subst, ◌∙◌, inl, inr, ⊎_elim, append_assoc, arith}
-use Rattle.std.specs.List.{AllByRecursion}
 use Rattle.std.proofs.lemmas.Bool.{cases_lt}
 use Rattle.std.proofs.lemmas.List.{append-nil}
-use Rattle.std.proofs.lemmas.List.Elements.{Contains-append_cases, Contains-append_left}
+use Rattle.std.proofs.lemmas.List.Elements.{All-contains_itself, All-weaker, Contains-append_cases, Contains-append_left, recursion_from_All}
 use Rattle.std.proofs.lemmas.Option.{same_Some}
 use Rattle.report_existence.specs.Laws.{IsListed}
-use Rattle.report_existence.proofs.Finite.{any_or_not, both_or_not, contains_more, of_any, same_places, when}
+use Rattle.report_existence.proofs.Finite.{any_or_not, both_or_not, of_any, same_places, when}
 use Rattle.report_existence.proofs.Ordered.{IsOrder, in_order}
 use Rattle.schedules.specs.declared.turn.Turn.{Turn}
 use Rattle.script_steps.specs.Choices.{Setting}
 use Rattle.explorations.specs.Explorations.{AreFew, AreFirstWords, Exploration, IsCovered, IsExplored, IsFirst, most_states, states_of, ways_of}
 use Rattle.explorations.specs.Words.{AreAlike, Point, Precedes, reached}
+use Rattle.explorations.proofs.Alike.{alike_back, alike_itself, alike_on}
 use Rattle.explorations.proofs.Order.{asymmetric, compared, decided, transitive}
 use Rattle.exploration_existence.proofs.AllWords.{IsEarliest, all_words, earliest, in_all_words}
-use Rattle.exploration_laws.proofs.One.{alike_back, first_at}
+use Rattle.exploration_laws.proofs.One.{first_at}
 use Rattle.exploration_laws.proofs.Rising.{Rises, from_pairs, front_first, front_rises, in_pairs}
 
 -- Words that lead somewhere are not longer than some number, and it is decided whether two of them lead to points that are alike.
@@ -22,16 +22,6 @@ pub record HasFewWords (setting : Setting) : Type 0 where
   pub bound : ℕ
   pub short : (word : List Turn) (point : Point) → reached setting word ≡ Some point → length word ≤ bound
   pub decides : (one other : List Turn) (point same : Point) → reached setting one ≡ Some point → reached setting other ≡ Some same → AreAlike point same ⊎ (AreAlike point same → ⊥)
-
-alike_itself : (point : Point) → AreAlike point point
-alike_itself point = record { lines = λ side. refl; spent = refl }
-
-alike_on : (one two three : Point) → AreAlike one two → AreAlike two three → AreAlike one three
-alike_on one two three a b = record { lines = λ side. a.lines side ∙ b.lines side; spent = a.spent ∙ b.spent }
-
-each_at : {X : Type 0} (P : X → Type 0) (xs : List X) → ((x : X) → Contains xs x → P x) → AllByRecursion P xs
-each_at P [] all = tt
-each_at P (x ∷ xs) all = (all x (contains_more x xs x (inl refl)), each_at P xs (λ y c. all y (contains_more x xs y (inr c))))
 
 order_of_words : IsOrder (λ (word : List Turn). Unit {0}) Precedes
 order_of_words = record { compared = λ a b among too. compared a b; trans = λ a b c among too three. transitive a b c }
@@ -143,7 +133,7 @@ module _ (setting : Setting) (few : HasFewWords setting) where
   prefix_first : (front back : List (List Turn)) → AreAllFirst setting (front ++ back) → AreFirstWords setting front
   prefix_first front back all = record {
     ordered = in_pairs front (front_rises front back all.rises);
-    each = each_at (IsFirst setting) front (λ word c. (all.exact word).0 (Contains-append_left front back word c));
+    each = recursion_from_All (IsFirst setting) front (All-weaker (Contains front) (IsFirst setting) (λ word c. (all.exact word).0 (Contains-append_left front back word c)) front (All-contains_itself front));
     none_left_out = λ later word point c before is.
         let h : HasFirst setting word point = has_first word point is in
         record { word = h.earlier; listed = listed later word h.earlier c before ((all.exact h.earlier).1 h.first) h.not_after; same = h.same; leads = h.leads; alike = h.alike };

@@ -10,13 +10,11 @@ use Rattle.script_steps.specs.Choices.{Setting}
 use Rattle.explorations.specs.Explorations.{AreFew, AreFirstWords, Exploration, IsCovered, IsExplored, IsFirst, StopsAt, state_at, states_of, way_of, ways_of}
 use Rattle.explorations.specs.Laws.{ExplorationsAreOne}
 use Rattle.explorations.specs.Words.{AreAlike, Point, Precedes, reached}
+use Rattle.explorations.proofs.Alike.{alike_back}
 use Rattle.explorations.proofs.Order.{asymmetric, irreflexive, same_if_neither}
 use Rattle.exploration_laws.proofs.Rising.{BeginsWith, contains_cases, contains_first, IsClosed, Rises, from_pairs, front_first, one_begins}
 
 -- What words have in common
-
-pub alike_back : (one other : Point) → AreAlike one other → AreAlike other one
-alike_back one other a = record { lines = λ side. sym (a.lines side); spent = sym a.spent }
 
 module _ (setting : Setting) where
   -- a word of a list of first words is one

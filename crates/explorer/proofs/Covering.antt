@@ -1,8 +1,7 @@
 -- How the words that a search has found grow.
 use Rattle.std.proofs.Common.{◌≡◌, ◌⊎◌, inl, inr, ℕ, suc, ◌+◌, ◌<◌, Bool, true, false, List, [], ◌∷◌, ◌++◌, length, get_or, Option, Some, None, refl, sym, ap, subst, ◌∙◌, append_assoc, length-append, arith}
 use Rattle.std.specs.Prelude.{Contains}
-use Rattle.std.specs.List.{AllByRecursion}
-use Rattle.std.proofs.lemmas.List.Elements.{Contains-append_left, Contains-get_or, Contains-push, Contains-push_cases}
+use Rattle.std.proofs.lemmas.List.Elements.{All-contains_itself, All-weaker, Contains-append_left, Contains-get_or, Contains-push, Contains-push_cases, recursion_from_All}
 use Rattle.std.proofs.lemmas.List.Quantifiers.{all_pairs_push}
 use Rattle.handler_script.specs.Valid.{IsValid}
 use Rattle.ipdl_base.specs.declared.kinds.Side.{Side}
@@ -16,38 +15,18 @@ use Rattle.script_steps.specs.Progress.{lines_of}
 use Rattle.script_steps.specs.Turns.{leads, idles, exceeds, outcome}
 use Rattle.explorations.specs.Explorations.{AreFirstWords, IsCovered, IsFirst}
 use Rattle.explorations.specs.Laws.{AlikeWordsAreAsLong, FuturesAreAlike, LeadsAlike}
+use Rattle.explorations.proofs.Alike.{alike_back, alike_itself, alike_on}
 use Rattle.explorations.proofs.Order.{none_before_empty, transitive}
 use Rattle.explorations.specs.Words.{AreAlike, Point, Precedes, place_in_order, rank, reached}
-use Rattle.explorer.proofs.Lists.{contains-first, contains-rest}
 use Rattle.explorer.proofs.Places.{GoesOn, back-before, before-back, before-earlier, before-longer, before-more, before-next, before-precedes, before-shorter, before-zero, precedes-before, zero-before}
-use Rattle.explorer.proofs.Points.{IsSpentAfter, at_spent, at_state, goes-alike, goes-nowhere, goes-on, goes-spent, none-after-spent, spent-last}
+use Rattle.explorer.proofs.Points.{IsSpentAfter, at_spent, at_state, goes-alike, goes-nowhere, goes-on, goes-spent, none-after-spent, point-same, spent-last}
 use Rattle.explorer.specs.Places.{IsBefore}
 use Rattle.explorer.specs.Searched.{HasCovered}
-
--- Points that are alike
-
-pub alike-same : (one : Point) → AreAlike one one
-alike-same one = record { lines = λ side. refl; spent = refl }
-
-pub alike-back : (one other : Point) → AreAlike one other → AreAlike other one
-alike-back one other h = record { lines = λ side. sym (h.lines side); spent = sym h.spent }
-
-pub alike-on : (one other third : Point) → AreAlike one other → AreAlike other third → AreAlike one third
-alike-on one other third h k = record { lines = λ side. h.lines side ∙ k.lines side; spent = h.spent ∙ k.spent }
-
-point-same : {one other : Point} → Some one ≡ Some other → one ≡ other
-point-same h = cc
-
--- Elements one by one, and by recursion
-
-pub all-from-each : {X : Type 0} (P : X → Type 0) (xs : List X) → ((x : X) → Contains xs x → P x) → AllByRecursion P xs
-all-from-each P [] h = tt
-all-from-each P (x ∷ xs) h = (h x (contains-first x xs), all-from-each P xs (λ y c. h y (contains-rest x y xs c)))
 
 -- What is covered
 
 covered-alike : (setting : Setting) (words : List (List Turn)) (point other : Point) → AreAlike point other → IsCovered setting words point → IsCovered setting words other
-covered-alike setting words point other h c = record { word = c.word; listed = c.listed; same = c.same; leads = c.leads; alike = alike-on c.same point other c.alike h }
+covered-alike setting words point other h c = record { word = c.word; listed = c.listed; same = c.same; leads = c.leads; alike = alike_on c.same point other c.alike h }
 
 covered-pushed : (setting : Setting) (words : List (List Turn)) (last : List Turn) (point : Point) → IsCovered setting words point → IsCovered setting (words ++ last ∷ []) point
 covered-pushed setting words last point c = record { word = c.word; listed = Contains-append_left words (last ∷ []) c.word c.listed; same = c.same; leads = c.leads; alike = c.alike }
@@ -85,7 +64,7 @@ module _ (setting : Setting) where
       leads = leads_to;
       first = λ one same there alike precedes.
           let c = h.covers one same precedes there in
-          is_new c.word c.same c.listed c.leads (alike-on c.same same point c.alike (alike-back point same alike));
+          is_new c.word c.same c.listed c.leads (alike_on c.same same point c.alike (alike_back point same alike));
     }
 
     pub covered-append : HasCovered setting (λ one. Precedes one word ⊎ (one ≡ word)) (words ++ word ∷ [])
@@ -111,14 +90,14 @@ module _ (setting : Setting) where
           listed = Contains-push words word;
           same = point;
           leads = leads_to;
-          alike = subst (AreAlike point) (point-same (sym leads_to ∙ ap (reached setting) (sym e) ∙ there)) (alike-same point);
+          alike = subst (AreAlike point) (point-same (sym leads_to ∙ ap (reached setting) (sym e) ∙ there)) (alike_itself point);
         }
 
   -- Words that cover a set, which has what precedes each of its words, are first words up to each of them.
   pub first-words : (IsIn : List Turn → Type 0) (words : List (List Turn)) → ((one other : List Turn) → Precedes one other → IsIn other → IsIn one) → HasCovered setting IsIn words → AreFirstWords setting words
   first-words IsIn words earlier h = record {
     ordered = h.ordered;
-    each = all-from-each (IsFirst setting) words h.each;
+    each = recursion_from_All (IsFirst setting) words (All-weaker (Contains words) (IsFirst setting) h.each words (All-contains_itself words));
     none_left_out = λ later word point c precedes there. h.covers word point (earlier word later precedes (h.inside later c)) there;
   }
 
@@ -190,7 +169,7 @@ module _ (setting : Setting) (words : List (List Turn)) (word : List Turn) (turn
       by : (more : List Turn) (point : Point) → reached setting (word ++ turn ∷ more) ≡ Some point → IsCovered setting words point
       by more point k =
           let a : LeadsAlike setting (found ++ more) point = futures setting (word ++ turn ∷ []) found more next same point sound valid limit entered there lines (ap (reached setting) (append_assoc word (turn ∷ []) more) ∙ k) in
-          covered-alike setting words a.same point (alike-back point a.same a.alike)
+          covered-alike setting words a.same point (alike_back point a.same a.alike)
           (h.covers (found ++ more) a.same (before-longer word (rank turn) found more (h.inside found listed) size) a.leads)
 
   up-to : HasCovered setting (λ one. Precedes one (word ++ turn ∷ [])) words
@@ -236,7 +215,7 @@ module _ (setting : Setting) (words : List (List Turn)) (word : List Turn) (turn
       let f = h.each word listed in
       let at : f.point ≡ at_state state = point-same (sym f.leads ∙ leads_there) in
       let like : AreAlike (at_state state) (at_state same.state) = record { lines = λ side. sym (alike.lines side); spent = refl } in
-      let size = long setting last.first word (at_state same.state) (at_state state) sound valid limit last.before leads_there (alike-back (at_state state) (at_state same.state) like) in
+      let size = long setting last.first word (at_state same.state) (at_state state) sound valid limit last.before leads_there (alike_back (at_state state) (at_state same.state) like) in
       by last (f.first last.first (at_state same.state) last.before (subst (λ (p : Point). AreAlike p (at_state same.state)) (sym at) like))
       (before-shorter word (rank turn) last.first last.turn (subst (IsBefore word (rank turn)) last.word_is (h.inside one c)) size)
     where

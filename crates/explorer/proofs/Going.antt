@@ -210,9 +210,6 @@ module _ (search mid : Search) (turn : Turn) (key : StateKey) (h : IsSearching s
       ap (λ (s : Setting). record { setting = s; state = mid.runner.world.state }) (come.is.about ∙ come.same)
       ∙ ap (λ (s : RunState). record { setting = setting_in search; state = s }) (ap (λ (p : Point). p.state) (point-same (sym come.here.leads ∙ there)))
 
-  same_state : h.is_at.stands.state ≡ may.state
-  same_state = ap (λ (p : Point). p.state) (point-same (sym h.is_at.stands.leads.leads ∙ may.before.leads))
-
   pub arriving : IsArriving mid
   arriving = record {
     runs = record {
