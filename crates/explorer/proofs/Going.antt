@@ -42,12 +42,6 @@ pub options-both : (w : WorldView) (spot : Spot) → AreOptionsAt w sides.Parent
 options-both w spot p c sides.Parent = p
 options-both w spot p c sides.Child = c
 
-pub like-itself : (search : Search) → AreLike search search
-like-itself search = record { setting = refl; most = refl }
-
-pub like-on : (one two three : Search) → AreLike one two → AreLike two three → AreLike one three
-like-on one two three h k = record { setting = k.setting ∙ h.setting; most = k.most ∙ h.most }
-
 -- the place of a search where a letter is next
 at-letter : (search : Search) (turn : Turn) → IsSearching search → search.next ≡ Some turn → IsAt (setting_in search) search.most search.word.items search.spots.items search.spot (Some turn) search.states (found_in search)
 at-letter search turn h at = subst (λ (n : Option Turn). IsAt (setting_in search) search.most search.word.items search.spots.items search.spot n search.states (found_in search)) at h.is_at
@@ -228,20 +222,6 @@ module _ (search mid : Search) (turn : Turn) (key : StateKey) (h : IsSearching s
       same_at : (at-letter search turn h at).stands.state ≡ may.state
       same_at = ap (λ (p : Point). p.state) (point-same (sym (at-letter search turn h at).stands.leads.leads ∙ may.before.leads))
 
-  pub goes-arrived : (goes : Bool) (last : Search) → Arrives mid goes last → Goes search goes last
-  goes-arrived true last g = (
-    record { setting = g.0.setting ∙ come.same; most = g.0.most ∙ most },
-    g.1,
-    (let size = ap length word in
-        let one = length-append search.word.items (turn ∷ []) in
-        let count = ap (λ (s : States). length s.met.keys) states in
-        let r : rank_of search.next ≡ rank turn = ap rank_of at in
-        let small = rank-small turn in
-        let less = g.2 in
-        omega (arith, size, one, count, less, r, small)),
-  )
-  goes-arrived false last g = (record { setting = g.0.setting ∙ come.same; most = g.0.most ∙ most }, g.1)
-
 -- A new state is added
 
 or-false : (a b : Bool) → (a || b) ≡ false → (a ≡ false) × (b ≡ false)
@@ -318,13 +298,6 @@ goes-end search after h none empty runner most found = (
       (subst (λ (w : List Turn). IsAt (setting_in search) search.most w search.spots.items search.spot None search.states (found_in search)) empty (at-none search h none)))))),
 )
 
-pub popped-to : (search after : Search) (turn : Turn) → IsSearching search → search.next ≡ None → search.word.items ≡ after.word.items ++ turn ∷ [] → after ≡ record search { word = after.word } → IsPoppedTo turn after
-popped-to search after turn h none word is = subst (IsPoppedTo turn) (sym is) (record {
-  is = h.runs.is;
-  is_at = subst (λ (w : List Turn). IsAt (setting_in search) search.most w search.spots.items search.spot None search.states (found_in search)) word (at-none search h none);
-  whole = h.whole;
-})
-
 pub popped-has : (search : Search) (turn : Turn) → IsPoppedTo turn search → search.spots.items ≡ [] → ⊥
 popped-has search turn h none = at-has (setting_in search) search.most search.word.items turn search.spot None search.states (found_in search)
     (subst (λ (ss : List Spot). IsAt (setting_in search) search.most (search.word.items ++ turn ∷ []) ss search.spot None search.states (found_in search)) none h.is_at)
@@ -351,37 +324,11 @@ popped-searching search after turn h spots runner most word states found next = 
     never e = cc
 
 -- going back leaves less to do
-pub back-goes : (search mid last : Search) (turn : Turn) → search.next ≡ None → search.word.items ≡ mid.word.items ++ turn ∷ [] → mid ≡ record search { word = mid.word } → AreLike mid last → IsSearching last → last.word ≡ mid.word → last.states ≡ mid.states
-    → last.next ≡ following turn.only_deliver turn.side → Goes search true last
-back-goes search mid last turn none word is like searching same states next = (
-  record { setting = like.setting ∙ ap setting_in is; most = like.most ∙ ap (λ (s : Search). s.most) is },
-  searching,
-  (let size : length last.word.items ≡ length mid.word.items = ap (λ w. length w.items) same in
-      let longer = ap length word in
-      let one = length-append mid.word.items (turn ∷ []) in
-      let count : length last.states.met.keys ≡ length search.states.met.keys = ap (λ (s : States). length s.met.keys) (states ∙ ap (λ (s : Search). s.states) is) in
-      let r : rank_of last.next ≡ rank turn + 1 = ap rank_of next ∙ next-rank turn in
-      let n : rank_of search.next ≡ 4 = ap rank_of none in
-      omega (arith, size, longer, one, count, r, n)),
-)
-
 -- A run of a search: it goes on, or it is finished
 
 abbrev pub RunsSo : Search → Bool → Search → Type 0
 RunsSo begun true now = AreLike begun now × IsSearching now
 RunsSo begun false now = AreLike begun now × IsFinished now
-
-pub runs-on : (begun now next : Search) (goes : Bool) → RunsSo begun true now → Goes now goes next → RunsSo begun goes next
-runs-on begun now next true h g = (like-on begun now next h.0 g.0, g.1)
-runs-on begun now next false h g = (like-on begun now next h.0 g.0, g.1)
-
-pub runs-less : (now next : Search) (goes : Bool) → Goes now goes next → (if goes then left_of next + 1 else 0) < left_of now + 1
-runs-less now next true g = let less = g.2 in omega arith
-runs-less now next false g = omega arith
-
-pub runs-start : (begun now : Search) (goes : Bool) → Arrives begun goes now → RunsSo begun goes now
-runs-start begun now true a = (a.0, a.1)
-runs-start begun now false a = (a.0, a.1)
 
 -- The beginning
 

@@ -18,10 +18,6 @@ at_spent state side = record { state = state; spent = Some side }
 pub point-same : {one other : Point} → Some one ≡ Some other → one ≡ other
 point-same h = cc
 
-pub no-spent : (state last : RunState) (side : Side) (word : List Turn) → spent_point state side word ≡ Some (at_state last) → ⊥
-no-spent state last side [] h = let e : Some side ≡ None = ap (λ (p : Point). p.spent) (point-same h) in cc
-no-spent state last side (turn ∷ word) h = cc
-
 -- A word after one that leads to a state
 
 pub reached-append : (setting : Setting) (word more : List Turn) (state : RunState) → reached setting word ≡ Some (at_state state) → reached setting (word ++ more) ≡ point_from setting more state
