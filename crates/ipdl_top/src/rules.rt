@@ -80,9 +80,27 @@ pub fn rule_checked(
     ensures { IfOk result (IsRuleChecked program.now (option_copied sections.entry) (option_copied list.entry)) }
 {
     let names = Names::build(alloc, program)?;
-    let found = gathered(alloc, program, &names, sections)?;
+    let checked = checked_with(alloc, program, &names, sections, list);
+    drop(names);
+    checked
+}
+
+/// Checks a program by the rules, with its table of names. Fails only if memory runs out.
+fn checked_with(
+    alloc: Global,
+    program: &Program,
+    names: &Names<'_>,
+    sections: Option<&SyncList>,
+    list: Option<&str>,
+) -> Result<CheckResult, AllocError>
+    requires program { IsProgram program.now }
+    requires named { BearTheirNames program.now }
+    requires of_program { names.now ≡ program.now }
+    ensures { IfOk result (IsRuleChecked program.now (option_copied sections.entry) (option_copied list.entry)) }
+{
+    let found = gathered(alloc, program, names, sections)?;
     if found.is_empty() {
-        Ok(CheckResult::Clean(schema(alloc, program, &names)?))
+        Ok(CheckResult::Clean(schema(alloc, program, names)?))
     } else {
         let called = names_of(alloc, program.as_slice())?;
         Ok(CheckResult::Broken(report_of(alloc, found, called, list)?))

@@ -105,6 +105,7 @@ impl<'s> Half<'s> {
             }) }
         ensures counted { IfOk result (λ half. IsCountedBy half no_progress) }
     {
+        let counts = ScriptCounts::new(alloc, script, side)?;
         Ok(Half {
             alloc,
             schema,
@@ -112,7 +113,7 @@ impl<'s> Half<'s> {
             script,
             stop,
             limit,
-            counts: ScriptCounts::new(alloc, script, side)?,
+            counts,
             history: History::new(alloc),
         })
     }

@@ -229,6 +229,11 @@ fn open_halves<'s>(
         sides.Child halves.1) }
 {
     let parent = Half::open(alloc, Side::Parent, schema, script, stop, limit)?;
-    let child = Half::open(alloc, Side::Child, schema, script, stop, limit)?;
-    Ok((parent, child))
+    match Half::open(alloc, Side::Child, schema, script, stop, limit) {
+        Ok(child) => Ok((parent, child)),
+        Err(error) => {
+            drop(parent);
+            Err(error)
+        }
+    }
 }

@@ -179,7 +179,15 @@ impl<'s> Half<'s> {
     pub fn into_lines(self) -> History
         ensures { map plain_line result.lines ≡ self.entry.history }
     {
-        self.history
+        let Half {
+            end,
+            counts,
+            history,
+            ..
+        } = self;
+        drop(end);
+        drop(counts);
+        history
     }
 
     /// Lets the half run by itself from here on, with no line taken over.

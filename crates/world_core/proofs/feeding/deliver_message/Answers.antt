@@ -1,4 +1,4 @@
-use Rattle.std.proofs.Common.{rules, ◌≡◌}
+use Rattle.std.proofs.Common.{rules}
 use Rattle.ipdl_base.specs.Plain.{plain_message}
 use Rattle.channel_model.specs.Ends.{message}
 use Rattle.world_core.proofs.feeding.deliver_message.Goals as goal

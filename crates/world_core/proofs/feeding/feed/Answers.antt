@@ -1,7 +1,5 @@
 use Rattle.std.proofs.Common.{None, refl, subst}
-use Rattle.script_steps.specs.Choices.{Setting}
 use Rattle.world_core.specs.Feeding.{HasEnded, state_in}
-use Rattle.world_core.specs.FeedResult.{IsFeedOf}
 use Rattle.world_core.specs.HalfView.{HalfView, setting_of}
 use Rattle.world_core.proofs.FeedStates.{feed-opens}
 use Rattle.world_core.proofs.feeding.feed.Goals as goal

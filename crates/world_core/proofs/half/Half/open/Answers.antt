@@ -11,6 +11,6 @@ pub returns-clause-counted : goal.returns-clause-counted
 returns-clause-counted c =
     let begun = sym c.in_ok-open.ensures in
     record {
-      counts = subst (λ (v : EndView). AreCountsOf c.args.script.now v.end.side no_progress c.in_ok-new.field-0) begun c.in_ok-new.ensures.counts;
-      held = ap (λ (rs : List RunningView). map (λ (r : RunningView). r.resolver) rs) c.in_ok-new.ensures.none ∙ ap (λ (v : EndView). map resolver_of (dispatches v.end.stack)) begun;
+      counts = subst (λ (v : EndView). AreCountsOf c.args.script.now v.end.side no_progress c.in_ok-counts.counts) begun c.in_ok-counts.ensures.counts;
+      held = ap (λ (rs : List RunningView). map (λ (r : RunningView). r.resolver) rs) c.in_ok-counts.ensures.none ∙ ap (λ (v : EndView). map resolver_of (dispatches v.end.stack)) begun;
     }
